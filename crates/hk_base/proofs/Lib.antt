@@ -1,0 +1,9 @@
+mod Rows
+pub mod Membership
+pub mod ReadLemmas
+pub mod FieldLemmas
+pub mod ReadingLemmas
+pub mod ValueLemmas
+pub mod Numbers
+pub mod Finds
+pub mod KeyedLemmas

@@ -1,0 +1,11 @@
+pub mod TailoringParts
+pub mod Fields
+pub mod Parameters
+pub mod Definitions
+pub mod Payload
+pub mod Builtin
+pub mod Fit
+pub mod Reading
+pub mod Spelling
+pub mod Outside
+pub mod Keyed

@@ -6,4 +6,5 @@ pub mod ReadingLemmas
 pub mod ValueLemmas
 pub mod Numbers
 pub mod Finds
+pub mod Sizes
 pub mod KeyedLemmas

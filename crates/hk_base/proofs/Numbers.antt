@@ -77,6 +77,7 @@ last_octets octets value all le e =
 
 -- half of what so many bits can be
 pub record IsHalf (bits shifted : ℕ) : Type 0 where
+  pub half : shifted ≡ 2 ^ (bits - 1)
   pub whole : 2 ^ bits ≡ 2 * shifted
   pub small : shifted ≤ 2 ^ 127
 
@@ -85,6 +86,7 @@ half_of bits low high =
     let shl = one_shl (bits - 1) 128 (omega (arith, low, high)) in
     let next : bits ≡ suc (bits - 1) = omega (arith, low) in
     record {
+      half = shl;
       whole = ap (λ b. 2 ^ b) next ∙ (pow-succ' 2 (bits - 1) ∙ ap (λ x. 2 * x) (sym shl));
       small = subst (λ x. x ≤ 2 ^ 127) (sym shl) (pow-le-pow_right {n = 2} (omega arith) {i = bits - 1} {j = 127} (omega (arith, high)));
     }

@@ -9,6 +9,7 @@ use Rattle.hk_base.specs.TailoringParts.{TailoringParts}
 use Rattle.hk_base.specs.declared.types.Param.{Param}
 use Rattle.hk_base.specs.declared.types.Place.{Place}
 use Rattle.hk_base.specs.declared.types.Definition.{Definition}
+use Rattle.hk_base.specs.declared.types.SuperList.{SuperList}
 use Rattle.hk_base.specs.declared.types.PayloadFault.{PayloadFault}
 use Rattle.hk_base.specs.declared.types.PayloadFault.TheVariants.{WrongSize, WrongValue, Padding}
 
@@ -42,6 +43,10 @@ ids_bits params ids = sum_by (λ p. p.bits) (filter_map (λ id. find (λ p. p.id
 -- the octets of a group of parameters
 abbrev pub ids_octets : List Param → List ℕ → ℕ
 ids_octets params ids = (ids_bits params ids + 7) / 8
+
+-- the octets of all repetitions of some arrays
+abbrev pub arrays_octets : List Param → List SuperList → ℕ
+arrays_octets params arrays = sum_by (λ a. a.repetition * ids_octets params a.params) arrays
 
 -- the parameters of a group
 abbrev pub group_params : TailoringParts → Group → List Param

@@ -8,3 +8,4 @@ pub mod Numbers
 pub mod Finds
 pub mod Sizes
 pub mod KeyedLemmas
+pub mod BuiltinFit

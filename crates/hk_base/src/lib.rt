@@ -2,11 +2,13 @@
 //! and the traits of the outside.
 #![tactic(auto)]
 
+mod copies;
 mod fields;
 mod list;
 mod outside;
 mod payload;
 mod ranges;
+mod standard;
 mod tailoring;
 mod types;
 
@@ -15,6 +17,7 @@ pub use list::{Items, Octets};
 pub use outside::{Failed, Shelf, Sink};
 pub use payload::payload_size;
 pub use ranges::fits;
+pub use standard::builtin;
 pub use tailoring::{Tailoring, greatest_tag, slot_of};
 pub use types::{
     BUILTIN_WIDTHS, BodyFault, Boot, Definition, Form, Key, Kind, Memory, Param, PayloadFault,

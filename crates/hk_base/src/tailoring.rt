@@ -1,5 +1,5 @@
 //! What a mission has chosen: widths of fields, its parameters, and the structures that the board has from its start.
-ghost use Rattle.std.specs.Prelude.{◌≡◌, ◌^◌, IfOk, IfSome, OnOk, slice_get, map, nat_eq};
+ghost use Rattle.std.specs.Prelude.{◌≡◌, ◌^◌, length, IfOk, IfSome, OnOk, slice_get, map, nat_eq};
 ghost use Rattle.std.specs.List.{IsDistinct};
 ghost use Rattle.std.specs.Option.{option_copied};
 ghost use Rattle.indexmap.specs.IndexMap.{insert_entry};
@@ -81,6 +81,14 @@ impl Tailoring {
             Some((_, param)) => Some(param),
             None => None,
         }
+    }
+
+    /// The number of parameters.
+    pub(crate) fn param_count(&self) -> u32
+        ensures count { result ≡ length self.now.params }
+        ensures fit { IsFit self.now }
+    {
+        self.params.len() as u32
     }
 
     /// The structure that the board has under this key from its start.

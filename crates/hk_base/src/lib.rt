@@ -12,7 +12,7 @@ mod types;
 
 pub use fields::{get_int, get_uint, put_int, put_uint};
 pub use list::{Items, Octets};
-pub use outside::{Failed, Shelf, Sink};
+pub use outside::{Failed, Sensor, Shelf, Sink};
 pub use payload::payload_size;
 pub use ranges::fits;
 pub use tailoring::{Tailoring, greatest_tag, slot_of};

@@ -8,3 +8,6 @@ pub mod Numbers
 pub mod Finds
 pub mod Sizes
 pub mod KeyedLemmas
+pub mod ListedLemmas
+pub mod FileLemmas
+pub mod RoomLemmas

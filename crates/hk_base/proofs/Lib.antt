@@ -11,3 +11,4 @@ pub mod KeyedLemmas
 pub mod ListedLemmas
 pub mod FileLemmas
 pub mod RoomLemmas
+pub mod RowLemmas

@@ -25,10 +25,13 @@ pub struct TableSensor {
 
 impl Model for TableSensor {
     ghost use Rattle.hk_base.specs.Memory.{TableState};
+    ghost use Rattle.hk_base.specs.Outside.{IsCount};
 
     ghost Value = { TableState };
 
     ghost view = { λ s. record { rows = s.rows; failing = s.failing; calls = s.calls; faults = s.faults } };
+
+    ghost invariant = { λ s. IsCount s.faults };
 }
 
 impl TableSensor {

@@ -107,8 +107,8 @@ table_after table None = record table { calls = one_more table.calls; faults = o
 table_after table (Some value) = record table { calls = one_more table.calls }
 
 -- the first fitting row has this value
-abbrev pub Gives : TableState → Param → ℕ → ℤ → Type 0
-Gives table param slot value = first_fitting table.rows param slot ≡ Some value
+abbrev pub IsGiven : TableState → Param → ℕ → ℤ → Type 0
+IsGiven table param slot value = first_fitting table.rows param slot ≡ Some value
 
 -- what a read answers, and the sensor after it
 abbrev pub Senses : TableState → Param → ℕ → Result ℤ Failed → TableState → Type 0

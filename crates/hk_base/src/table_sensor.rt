@@ -3,7 +3,7 @@ ghost use Rattle.std.specs.Prelude.{◌≡◌, IfOk, IsOk, IsTrue};
 ghost use Rattle.std.specs.Result.{result_ok};
 ghost use Rattle.hk_base.specs.Fit.{IsFitShape};
 ghost use Rattle.hk_base.specs.Memory as memory;
-ghost use Rattle.hk_base.specs.Memory.{TableState, Gives, Senses, IsSure, sensed, table_after};
+ghost use Rattle.hk_base.specs.Memory.{TableState, IsGiven, Senses, IsSure, sensed, table_after};
 ghost use Rattle.hk_base.specs.Outside.{Counts, IsCount, GivesAlike, StaysSure};
 ghost use Rattle.hk_base.specs.Parameters as parameters;
 
@@ -51,7 +51,7 @@ impl TableSensor {
 impl Sensor for TableSensor {
     ghost faults = { λ s. s.faults };
 
-    ghost gives = { Gives };
+    ghost gives = { IsGiven };
 
     ghost reads = { Senses };
 
@@ -62,8 +62,8 @@ impl Sensor for TableSensor {
         ensures count { Counts self.old.faults self.new.faults result }
         ensures bound { IsCount self.new.faults }
         ensures fitting { IfOk result (λ value. IsTrue (parameters.fits param.now value)) }
-        ensures given { IfOk result (Gives self.old param.now slot) }
-        ensures gives { GivesAlike (Gives self.old) (Gives self.new) }
+        ensures given { IfOk result (IsGiven self.old param.now slot) }
+        ensures gives { GivesAlike (IsGiven self.old) (IsGiven self.new) }
         ensures reads { Senses self.old param.now slot result self.new }
         ensures sure { IsSure self.old param.now slot → IsOk result }
         ensures stays_sure { StaysSure (IsSure self.old) (IsSure self.new) }

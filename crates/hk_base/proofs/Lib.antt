@@ -9,3 +9,7 @@ pub mod Finds
 pub mod Sizes
 pub mod KeyedLemmas
 pub mod BuiltinFit
+pub mod ListedLemmas
+pub mod FileLemmas
+pub mod RoomLemmas
+pub mod RowLemmas

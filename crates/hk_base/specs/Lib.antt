@@ -8,4 +8,5 @@ pub mod Fit
 pub mod Reading
 pub mod Spelling
 pub mod Outside
+pub mod Memory
 pub mod Keyed

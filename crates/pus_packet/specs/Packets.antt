@@ -94,19 +94,22 @@ abbrev pub first_fault : List (Option PacketFault) → Option PacketFault
 first_fault [] = None
 first_fault (f ∷ fs) = option_or f (first_fault fs)
 
--- the first fault of octets that are to be a packet of a direction, with headers of so many octets
-abbrev pub packet_fault : ℕ → ℕ → Bool → List ℕ → Option PacketFault
-packet_fault wanted headers checksum octets =
-    first_fault
-    (fault_unless (not (nat_lt (length octets) (headers + checksum_octets checksum))) (Short (length octets))
+-- the faults of the headers of octets that are to be a packet of a direction and have so many octets at least, in the order of checking
+abbrev pub header_faults : ℕ → ℕ → List ℕ → List (Option PacketFault)
+header_faults wanted least octets =
+    fault_unless (not (nat_lt (length octets) least)) (Short (length octets))
     ∷ fault_unless (claimed_length octets == length octets) (Length (claimed_length octets) (length octets))
     ∷ fault_unless (version octets == 0) (Version (version octets))
     ∷ fault_unless (direction octets == wanted) (Direction (direction octets))
     ∷ fault_unless (secondary_flag octets == 1) NoSecondary
     ∷ fault_unless (sequence_flags octets == 3) (Segmented (sequence_flags octets))
     ∷ fault_unless (pus_version octets == 2) (PusVersion (pus_version octets))
-    ∷ checksum_fault checksum octets
-    ∷ [])
+    ∷ []
+
+-- the first fault of octets that are to be a packet of a direction, with headers of so many octets
+abbrev pub packet_fault : ℕ → ℕ → Bool → List ℕ → Option PacketFault
+packet_fault wanted headers checksum octets =
+    option_or (first_fault (header_faults wanted (headers + checksum_octets checksum) octets)) (checksum_fault checksum octets)
 
 -- a value, unless there is a fault
 abbrev pub unless_fault : {A : Type 0} → Option PacketFault → A → Result A PacketFault

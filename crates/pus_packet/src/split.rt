@@ -1,29 +1,52 @@
-ghost use Rattle.std.specs.Prelude.{◌≡◌, ◌<◌, ◌≤◌, ◌+◌, ◌^◌, length, take, false};
+ghost use Rattle.std.specs.Prelude.{◌≡◌, ◌<◌, ◌≤◌, ◌+◌, ◌^◌, length, take, IfNone, true};
 ghost use Rattle.hk_base.specs.Fields.{number_of};
 ghost use Rattle.pus_packet.specs.Packets as packets;
-ghost use Rattle.pus_packet.specs.Packets.{Gives, word_at, split_report, process_of};
+ghost use Rattle.pus_packet.specs.Packets.{Gives, word_at, split_command, split_report, process, process_of, first_fault, header_faults};
 
-use crate::header::{PacketFault, TmHeader};
+use crate::checksum::crc16;
+use crate::header::{PacketFault, TcHeader, TmHeader};
 use hk_base::{Tailoring, get_uint};
 
-/// The headers and the body of a report packet.
+/// The headers and the body of a request packet, or the first fault.
+pub fn split_tc<'a>(
+    tailoring: &Tailoring,
+    bytes: &'a [u8],
+) -> Result<(TcHeader, &'a [u8]), PacketFault>
+    requires size { length bytes.now ≤ 2 ^ 31 }
+    ensures { Gives (λ x. (x.0, x.1.now)) result (split_command tailoring.now bytes.now) }
+{
+    let checksum = tailoring.widths().tc_checksum;
+    if let Some(fault) = packet_fault(bytes, 1, 11, checksum) {
+        return Err(fault);
+    }
+    let header = TcHeader {
+        apid: apid(bytes),
+        count: word(bytes, 2) % (1 << 14),
+        flags: bytes[6] % 16,
+        service: bytes[7],
+        subtype: bytes[8],
+        source: word(bytes, 9),
+    };
+    Ok((header, &checked_part(bytes, checksum)[11..]))
+}
+
+/// The headers and the body of a report packet, or the first fault.
 pub fn split_tm<'a>(
     tailoring: &Tailoring,
     bytes: &'a [u8],
 ) -> Result<(TmHeader, &'a [u8]), PacketFault>
     requires size { length bytes.now ≤ 2 ^ 31 }
-    requires unchecked { tailoring.now.widths.tm_checksum ≡ false }
     ensures { Gives (λ x. (x.0, x.1.now)) result (split_report tailoring.now bytes.now) }
 {
     let widths = tailoring.widths();
     let time = widths.coarse + widths.fine;
     let headers = 13 + usize::from(time);
-    if let Some(fault) = header_fault(bytes, 0, headers) {
+    if let Some(fault) = packet_fault(bytes, 0, headers, widths.tm_checksum) {
         return Err(fault);
     }
     let header = TmHeader {
-        apid: word(bytes, 0) % 2048,
-        count: word(bytes, 2) % 16384,
+        apid: apid(bytes),
+        count: word(bytes, 2) % (1 << 14),
         status: bytes[6] % 16,
         service: bytes[7],
         subtype: bytes[8],
@@ -31,17 +54,47 @@ pub fn split_tm<'a>(
         destination: word(bytes, 11),
         tag: tag_at(&bytes[13..], time),
     };
-    Ok((header, &bytes[headers..]))
+    Ok((header, &checked_part(bytes, widths.tm_checksum)[headers..]))
+}
+
+/// The application process of octets that have a primary header; None where they have fewer than its 6 octets.
+pub fn apid_of(bytes: &[u8]) -> Option<u16>
+    requires size { length bytes.now ≤ 2 ^ 31 }
+    ensures { result ≡ process_of bytes.now }
+{
+    if bytes.len() < 6 {
+        None
+    } else {
+        Some(apid(bytes))
+    }
 }
 
 /// The first fault of octets that are to be a packet of a direction, with headers of so many octets.
-fn header_fault(bytes: &[u8], wanted: u8, headers: usize) -> Option<PacketFault>
+fn packet_fault(bytes: &[u8], wanted: u8, headers: usize, checksum: bool) -> Option<PacketFault>
     requires size { length bytes.now ≤ 2 ^ 31 }
-    requires least { 11 ≤ headers }
-    ensures { result ≡ packets.packet_fault wanted headers false bytes.now }
+    requires width { (11 ≤ headers) × (headers ≤ 20) }
+    ensures fault { result ≡ packets.packet_fault wanted headers checksum bytes.now }
+    ensures enough { IfNone result (headers + packets.checksum_octets checksum ≤ length bytes.now) }
+{
+    if let Some(fault) = header_fault(bytes, wanted, headers + checksum_octets(checksum)) {
+        return Some(fault);
+    }
+    if checksum {
+        checksum_fault(bytes)
+    } else {
+        None
+    }
+}
+
+/// The first fault of the headers of octets that have to be so many at least.
+fn header_fault(bytes: &[u8], wanted: u8, least: usize) -> Option<PacketFault>
+    requires size { length bytes.now ≤ 2 ^ 31 }
+    requires least { 11 ≤ least }
+    ensures fault { result ≡ first_fault (header_faults wanted least bytes.now) }
+    ensures enough { IfNone result (least ≤ length bytes.now) }
 {
     let real = bytes.len() as u32;
-    if bytes.len() < headers {
+    if bytes.len() < least {
         return Some(PacketFault::Short(real));
     }
     let claimed = u32::from(word(bytes, 4)) + 7;
@@ -71,16 +124,41 @@ fn header_fault(bytes: &[u8], wanted: u8, headers: usize) -> Option<PacketFault>
     None
 }
 
-/// The process of octets that have a primary header.
-pub fn apid_of(bytes: &[u8]) -> Option<u16>
-    requires size { length bytes.now ≤ 2 ^ 31 }
-    ensures { result ≡ process_of bytes.now }
+/// The fault of the checksum in the last two octets.
+fn checksum_fault(bytes: &[u8]) -> Option<PacketFault>
+    requires size { (2 ≤ length bytes.now) × (length bytes.now ≤ 2 ^ 31) }
+    ensures { result ≡ packets.checksum_fault true bytes.now }
 {
-    if bytes.len() < 6 {
+    let field = word(bytes, bytes.len() - 2);
+    let computed = crc16(checked_part(bytes, true));
+    if field == computed {
         None
     } else {
-        Some(word(bytes, 0) % 2048)
+        Some(PacketFault::Checksum(field, computed))
     }
+}
+
+/// The octets of a packet without its checksum.
+fn checked_part(bytes: &[u8], checksum: bool) -> &[u8]
+    requires { packets.checksum_octets checksum ≤ length bytes.now }
+    ensures { result.now ≡ packets.checked_part checksum bytes.now }
+{
+    &bytes[..bytes.len() - checksum_octets(checksum)]
+}
+
+/// How many octets a checksum has, where it is on.
+fn checksum_octets(on: bool) -> usize
+    ensures { result ≡ packets.checksum_octets on }
+{
+    if on { 2 } else { 0 }
+}
+
+/// The application process in the primary header.
+fn apid(bytes: &[u8]) -> u16
+    requires { 6 ≤ length bytes.now }
+    ensures { result ≡ process bytes.now }
+{
+    word(bytes, 0) % (1 << 11)
 }
 
 /// The number in two octets.
@@ -91,7 +169,7 @@ fn word(bytes: &[u8], at: usize) -> u16
     u16::from(bytes[at]) * 256 + u16::from(bytes[at + 1])
 }
 
-/// The time tag at the front.
+/// The number that the octets of a time make.
 fn tag_at(bytes: &[u8], octets: u8) -> u64
     requires width { (1 ≤ octets) × (octets ≤ 7) }
     requires enough { octets ≤ length bytes.now }

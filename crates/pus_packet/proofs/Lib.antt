@@ -1,0 +1,3 @@
+mod Polynomials
+mod Registers
+mod Table

@@ -1,0 +1,7 @@
+//! The parameter and the slot of each sample of a report, and the values of its payload.
+#![tactic(auto)]
+
+mod slots;
+
+pub use hk_base::{PayloadFault, Place};
+pub use slots::{place, place_count};

@@ -10,7 +10,7 @@ mod ranges;
 mod tailoring;
 mod types;
 
-pub use fields::{get_int, get_uint, put_int, put_uint};
+pub use fields::{get_int, get_uint, put_int, put_uint, sign_extended};
 pub use list::{Items, Octets};
 pub use outside::{Failed, Shelf, Sink};
 pub use payload::payload_size;

@@ -1,1 +1,4 @@
 pub mod Places
+pub mod Sampled
+pub mod BitsLemmas
+pub mod ReadingLemmas

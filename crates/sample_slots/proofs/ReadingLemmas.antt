@@ -1,0 +1,1 @@
+-- Reading value by value, and group by group.

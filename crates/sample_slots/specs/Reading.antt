@@ -1,6 +1,6 @@
 -- Reading a payload from left to right.
 use Rattle.std.specs.Prelude.{◌≡◌, ℕ, ◌+◌, ◌*◌, ◌/◌, ◌≤◌, ⊤, List, [], ◌∷◌, ◌++◌, length, take, drop, filter_map, ℤ, Bool, ◌==◌, Option, Result, Ok, Err, is_some, option_map, IsTrue, if◌then◌else◌}
-use Rattle.std.specs.List.{list_any, AllByRecursion}
+use Rattle.std.specs.List.{list_any, All}
 use Rattle.hk_base.specs.TailoringParts.{TailoringParts}
 use Rattle.hk_base.specs.Parameters.{parameter, fits, bits_value}
 use Rattle.hk_base.specs.Payload.{Group, repetitions, bits_of, bits_values, misfit, unless_fault, groups_fault, payload_values}
@@ -11,7 +11,7 @@ use Rattle.hk_base.specs.declared.types.PayloadFault.TheVariants.{WrongSize, Wro
 
 -- parameters that the tailoring has
 abbrev pub AreKnown : TailoringParts → List ℕ → Type 0
-AreKnown t ids = AllByRecursion (λ id. IsTrue (is_some (parameter t id))) ids
+AreKnown t ids = All (λ id. IsTrue (is_some (parameter t id))) ids
 
 -- an array whose parameters are known, and whose numbers are small
 pub record IsReadableArray (t : TailoringParts) (a : SuperList) : Type 0 where

@@ -44,7 +44,7 @@ pub fn get_int(bytes: &[u8], octets: u8) -> Result<i128, Short>
 }
 
 /// What so many bits stand for in two's complement.
-fn sign_extended(number: u128, bits: u8) -> i128
+pub fn sign_extended(number: u128, bits: u8) -> i128
     requires width { (1 ≤ bits) × (bits ≤ 128) }
     requires fits { number < 2 ^ bits }
     ensures { result ≡ signed_of bits number }

@@ -16,7 +16,7 @@ mod table_sensor;
 mod tailoring;
 mod types;
 
-pub use fields::{get_int, get_uint, put_int, put_uint};
+pub use fields::{get_int, get_uint, put_int, put_uint, sign_extended};
 pub use list::{Items, Octets};
 pub use mem_shelf::MemShelf;
 pub use mem_sink::MemSink;

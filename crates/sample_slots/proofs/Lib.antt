@@ -1,0 +1,4 @@
+pub mod Places
+pub mod Sampled
+pub mod BitsLemmas
+pub mod ReadingLemmas

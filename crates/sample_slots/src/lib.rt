@@ -1,0 +1,10 @@
+//! The parameter and the slot of each sample of a report, and the values of its payload.
+#![tactic(auto)]
+
+mod bits;
+mod payload;
+mod slots;
+
+pub use hk_base::{PayloadFault, Place};
+pub use payload::{read_payload, size};
+pub use slots::{place, place_count};

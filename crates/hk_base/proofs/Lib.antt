@@ -9,3 +9,5 @@ pub mod Finds
 pub mod Sizes
 pub mod KeyedLemmas
 pub mod BuiltinFit
+pub mod ListReading
+pub mod Writing

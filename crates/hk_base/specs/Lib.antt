@@ -9,3 +9,4 @@ pub mod Reading
 pub mod Spelling
 pub mod Outside
 pub mod Keyed
+pub mod Outcomes

@@ -13,3 +13,5 @@ pub mod ListedLemmas
 pub mod FileLemmas
 pub mod RoomLemmas
 pub mod RowLemmas
+pub mod ListReading
+pub mod Writing

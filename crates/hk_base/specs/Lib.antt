@@ -10,3 +10,4 @@ pub mod Spelling
 pub mod Outside
 pub mod Memory
 pub mod Keyed
+pub mod Outcomes

@@ -2,6 +2,7 @@
 //! and the traits of the outside.
 #![tactic(auto)]
 
+pub mod body;
 mod copies;
 mod fields;
 mod list;

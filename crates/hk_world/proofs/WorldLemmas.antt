@@ -1,0 +1,73 @@
+-- What holds of each moment and of each delivery of a world.
+use Rattle.std.proofs.Common.{◌≡◌, ◌≢◌, ◌<◌, ℕ, zero, suc, List, [], ◌∷◌, ◌++◌, Some, ap, subst, sym, refl}
+use Rattle.std.specs.Prelude.{slice_get}
+use Rattle.std.specs.List.{AllByRecursion}
+use Rattle.std.proofs.lemmas.Option.{same_Some, none-some}
+use Rattle.hk_world.specs.Timelines.{EachAfter, Session}
+use Rattle.hk_world.specs.Honest.{Carries, SendsReport}
+use Rattle.hk_world.specs.Worlds.{Step, happen, deliver, MayHappen, MayStep, MayArrive, IsDelivered, AreDelivered, moments_of, deliveries_of}
+use Rattle.hk_world.specs.declared.moment.Moment.{Moment}
+use Rattle.hk_world.specs.declared.moment.Act.{Act}
+use Rattle.hk_world.specs.declared.moment.Act.TheVariants.{Accepted, TurnedAway, Started, NotStarted, Executed, Completed, Emitted, Filed}
+
+-- what each step lets a moment be holds over the timeline
+pub each_moment : (s : Session) (R : List Moment → Moment → Type 0) → ((earlier : List Moment) (m : Moment) → MayHappen s earlier m → R earlier m) → (steps : List Step) → EachAfter (MayStep s) steps → EachAfter R (moments_of steps)
+each_moment s R f [] h = tt
+each_moment s R f (happen m ∷ earlier) h = (f (moments_of earlier) m h.0, each_moment s R f earlier h.1)
+each_moment s R f (deliver m ∷ earlier) h = each_moment s R f earlier h.1
+
+-- a moment of a timeline, with those before it
+pub record IsAt (R : List Moment → Moment → Type 0) (moments : List Moment) (m : Moment) : Type 0 where
+  pub later : List Moment
+  pub earlier : List Moment
+  pub before : moments ≡ later ++ earlier
+  pub is : R earlier m
+
+pub moment_at : (R : List Moment → Moment → Type 0) (moments : List Moment) (m : Moment) (number : ℕ) → EachAfter R moments → slice_get moments number ≡ Some m → IsAt R moments m
+moment_at R [] m number each e = absurd (none-some m e)
+moment_at R (x ∷ moments) m zero each e = record { later = x ∷ []; earlier = moments; before = refl; is = subst (λ y. R moments y) (same_Some x m e) each.0 }
+moment_at R (x ∷ moments) m (suc number) each e =
+    let r = moment_at R moments m number each.1 e in
+    record { later = x ∷ r.later; earlier = r.earlier; before = ap (λ xs. x ∷ xs) r.before; is = r.is }
+
+-- a moment that has a packet sends a report
+pub carried_report : (s : Session) (earlier : List Moment) (m : Moment) (act : Act) → Carries s earlier m act → m.packet ≢ [] → SendsReport s earlier m
+carried_report s earlier m (Accepted k) c some = absurd c
+carried_report s earlier m (TurnedAway k) c some = absurd c
+carried_report s earlier m (Started k) c some = absurd c
+carried_report s earlier m (NotStarted k) c some = absurd c
+carried_report s earlier m (Executed k number flag) c some = absurd c
+carried_report s earlier m (Completed k refused) c some = absurd c
+carried_report s earlier m Emitted c some = c
+carried_report s earlier m (Filed param slot value) c some = absurd (some c)
+
+-- one moment more
+delivered_later : (s : Session) (moments : List Moment) (next m : Moment) → IsDelivered s moments m → IsDelivered s (next ∷ moments) m
+delivered_later s moments next m d =
+    record { number = suc d.number; sent = d.sent; later = next ∷ d.later; earlier = d.earlier; before = ap (λ xs. next ∷ xs) d.before; report = d.report }
+
+all_later : (s : Session) (moments : List Moment) (next : Moment) (delivered : List Moment) → AllByRecursion (IsDelivered s moments) delivered → AllByRecursion (IsDelivered s (next ∷ moments)) delivered
+all_later s moments next [] all = tt
+all_later s moments next (m ∷ delivered) all = (delivered_later s moments next m all.0, all_later s moments next delivered all.1)
+
+honest : (s : Session) (earlier : List Moment) (m : Moment) → MayHappen s earlier m → Carries s earlier m m.act
+honest s earlier m h = h.packet
+
+arrived : (s : Session) (earlier : List Step) (m : Moment) → EachAfter (MayStep s) earlier → MayArrive (moments_of earlier) (deliveries_of earlier) m → IsDelivered s (moments_of earlier) m
+arrived s earlier m steps h =
+    let at = moment_at (λ before x. Carries s before x x.act) (moments_of earlier) m h.number (each_moment s (λ before x. Carries s before x x.act) (honest s) earlier steps) h.sent in
+    record { number = h.number; sent = h.sent; later = at.later; earlier = at.earlier; before = at.before; report = carried_report s at.earlier m m.act at.is h.some }
+
+each_delivered : (s : Session) (steps : List Step) → EachAfter (MayStep s) steps → AllByRecursion (IsDelivered s (moments_of steps)) (deliveries_of steps)
+each_delivered s [] h = tt
+each_delivered s (happen m ∷ earlier) h = all_later s (moments_of earlier) m (deliveries_of earlier) (each_delivered s earlier h.1)
+each_delivered s (deliver m ∷ earlier) h = (arrived s earlier m h.1 h.0, each_delivered s earlier h.1)
+
+in_order : (s : Session) (steps : List Step) → EachAfter (MayStep s) steps → EachAfter (λ earlier m. AllByRecursion (λ d. d.tag < m.tag) earlier) (deliveries_of steps)
+in_order s [] h = tt
+in_order s (happen m ∷ earlier) h = in_order s earlier h.1
+in_order s (deliver m ∷ earlier) h = (h.0.later, in_order s earlier h.1)
+
+-- what was delivered are reports of the board
+pub delivered_reports : (s : Session) (steps : List Step) → EachAfter (MayStep s) steps → AreDelivered s (moments_of steps) (deliveries_of steps)
+delivered_reports s steps h = record { each = each_delivered s steps h; order = in_order s steps h }

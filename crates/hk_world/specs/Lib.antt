@@ -1,0 +1,5 @@
+pub mod States
+pub mod Timelines
+pub mod Legal
+pub mod Honest
+pub mod Worlds

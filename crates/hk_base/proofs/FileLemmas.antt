@@ -1,5 +1,5 @@
 -- Files by their names.
-use Rattle.std.proofs.Common.{◌≡◌, ◌<◌, ℕ, zero, suc, Bool, true, List, [], ◌∷◌, Option, Some, length, drop, get_or, ap, ◌∙◌, sym, refl, arith}
+use Rattle.std.proofs.Common.{◌≡◌, ◌<◌, ℕ, zero, suc, true, List, [], ◌∷◌, Some, length, drop, get_or, ap, ◌∙◌, sym, refl, arith}
 use Rattle.std.specs.Str.{bytes_eq}
 use Rattle.hk_base.specs.Memory.{file_at}
 use Rattle.hk_base.specs.Outside.{file_of}

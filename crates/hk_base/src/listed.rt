@@ -1,8 +1,7 @@
 //! Calls that fail because their numbers are listed.
-ghost use Rattle.std.specs.Prelude.{◌≡◌, ◌<◌, ◌≤◌, false, true};
+ghost use Rattle.std.specs.Prelude.{◌≡◌, false};
 ghost use Rattle.hk_base.specs.Memory as memory;
 ghost use Rattle.hk_base.specs.Memory.{NoneAhead, one_more};
-ghost use Rattle.hk_base.specs.Outside.{HasRisen, IsCount};
 
 use crate::outside::Failed;
 

@@ -3,7 +3,7 @@ ghost use Rattle.std.specs.Prelude.{◌≡◌, ◌≤◌, ◌<◌, Some, None, i
 ghost use Rattle.std.specs.Option.{option_map, option_copied};
 ghost use Rattle.std.specs.Result.{result_ok};
 ghost use Rattle.hk_base.specs.Memory as memory;
-ghost use Rattle.hk_base.specs.Memory.{NoneAhead, ShelfState, file_at, readable, read_count, left_by_read, shelf_after};
+ghost use Rattle.hk_base.specs.Memory.{NoneAhead, file_at, readable, read_count, left_by_read, shelf_after};
 ghost use Rattle.hk_base.specs.Outside.{file_of, IsMoved, IsCount, Counts, Selects, SelectsIfKnown, Reads, ReadsIfSelected};
 
 use crate::list::{Items, Octets};

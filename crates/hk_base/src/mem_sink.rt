@@ -1,7 +1,7 @@
 //! A sink in memory, which fails at calls that are listed.
 ghost use Rattle.std.specs.Prelude.{◌≡◌, ◌≤◌, ◌<◌, Some, [], length, IfOk, OnErr, IfSome};
 ghost use Rattle.std.specs.Result.{result_ok};
-ghost use Rattle.hk_base.specs.Memory.{SinkState, sink_room, sink_after, write_count};
+ghost use Rattle.hk_base.specs.Memory.{sink_room, sink_after, write_count};
 ghost use Rattle.hk_base.specs.Outside.{Counts, IsCount, Takes, UsesRoom};
 
 use crate::list::Items;

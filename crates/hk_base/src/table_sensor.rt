@@ -3,7 +3,7 @@ ghost use Rattle.std.specs.Prelude.{◌≡◌, IfOk, IsOk, IsTrue};
 ghost use Rattle.std.specs.Result.{result_ok};
 ghost use Rattle.hk_base.specs.Fit.{IsFitShape};
 ghost use Rattle.hk_base.specs.Memory as memory;
-ghost use Rattle.hk_base.specs.Memory.{TableState, IsGiven, Senses, IsSure, sensed, table_after};
+ghost use Rattle.hk_base.specs.Memory.{IsGiven, Senses, IsSure, sensed, table_after};
 ghost use Rattle.hk_base.specs.Outside.{Counts, IsCount, GivesAlike, StaysSure};
 ghost use Rattle.hk_base.specs.Parameters as parameters;
 

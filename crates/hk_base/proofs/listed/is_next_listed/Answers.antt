@@ -1,4 +1,4 @@
-use Rattle.std.proofs.Common.{◌≡◌, ◌∙◌, ◌+◌, ℕ, ap}
+use Rattle.std.proofs.Common.{◌∙◌, ◌+◌, ℕ, ap}
 use Rattle.hk_base.specs.Memory.{is_listed}
 use Rattle.hk_base.proofs.ListedLemmas.{none_listed}
 use Rattle.hk_base.proofs.listed.is_next_listed.Goals as goal

@@ -1,4 +1,4 @@
-use Rattle.std.proofs.Common.{◌≡◌, ◌∙◌, ◌≤◌, ℕ, List, ap, sym, arith}
+use Rattle.std.proofs.Common.{◌∙◌, ℕ, List, ap, sym, arith}
 use Rattle.hk_base.specs.Memory.{is_next_listed}
 use Rattle.hk_base.proofs.RoomLemmas.{uses_listed, uses_none, uses_some}
 use Rattle.hk_base.proofs.mem_sink.MemSinkSink.write.Goals as goal

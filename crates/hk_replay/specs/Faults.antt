@@ -1,0 +1,49 @@
+-- The number and the text of each status.
+use Rattle.std.specs.Prelude.{ℕ, List, [], ◌++◌, codes}
+use Rattle.std.specs.Fmt.{decimal}
+use Rattle.session_record.specs.declared.entry.RecordFault.{RecordFault}
+use Rattle.session_record.specs.declared.entry.RecordFault.TheVariants as fault
+use Rattle.hk_replay.specs.declared.status.RecordProblem.{RecordProblem}
+use Rattle.hk_replay.specs.declared.status.RecordProblem.TheVariants.{Format}
+use Rattle.hk_replay.specs.declared.status.ReplayStatus.{ReplayStatus}
+use Rattle.hk_replay.specs.declared.status.ReplayStatus.TheVariants.{Done, Usage, Record, ReadFault, WriteFault, NoMemory, NotBuilt}
+
+-- the exit status of the program
+abbrev pub status_number : ReplayStatus → ℕ
+status_number Done = 0
+status_number Usage = 2
+status_number (Record problem) = 4
+status_number ReadFault = 5
+status_number WriteFault = 6
+status_number NoMemory = 7
+status_number NotBuilt = 20
+
+-- how a run ends by a fault of reading the record: a failing shelf and want of memory have statuses of their own
+abbrev pub status_of_fault : RecordFault → ReplayStatus
+status_of_fault fault.ReadFault = ReadFault
+status_of_fault fault.Memory = NoMemory
+status_of_fault fault.BadMagic = Record (Format fault.BadMagic)
+status_of_fault (fault.BadKind octet offset) = Record (Format (fault.BadKind octet offset))
+status_of_fault (fault.Cut offset) = Record (Format (fault.Cut offset))
+status_of_fault (fault.TooLong offset) = Record (Format (fault.TooLong offset))
+status_of_fault (fault.TooManyEntries offset) = Record (Format (fault.TooManyEntries offset))
+
+-- the text of a fault of the format
+abbrev pub format_text : RecordFault → List ℕ
+format_text fault.BadMagic = codes "record: bad magic"
+format_text (fault.BadKind octet offset) = codes "record: bad kind " ++ (decimal octet ++ (codes " at " ++ decimal offset))
+format_text (fault.Cut offset) = codes "record: cut at " ++ decimal offset
+format_text (fault.TooLong offset) = codes "record: too long at " ++ decimal offset
+format_text (fault.TooManyEntries offset) = codes "record: too many entries at " ++ decimal offset
+format_text fault.ReadFault = codes "read fault"
+format_text fault.Memory = codes "no memory"
+
+-- what is printed of a status
+abbrev pub fault_text : ReplayStatus → List ℕ
+fault_text Done = []
+fault_text Usage = codes "usage"
+fault_text (Record (Format f)) = format_text f
+fault_text ReadFault = codes "read fault"
+fault_text WriteFault = codes "write fault"
+fault_text NoMemory = codes "no memory"
+fault_text NotBuilt = codes "not built"

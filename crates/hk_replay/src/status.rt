@@ -1,0 +1,112 @@
+//! How a run ended.
+ghost use Rattle.std.specs.Prelude.{◌≡◌, IfOk};
+ghost use Rattle.hk_replay.specs.Faults.{fault_text, format_text, status_number, status_of_fault};
+ghost use Rattle.hk_replay.specs.declared.status.ReplayStatus.TheVariants as status;
+ghost use Rattle.std.specs.String.{string_bytes};
+
+use hk_base::{Failed, Items, Memory, Octets};
+use session_record::RecordFault;
+use std::alloc::{AllocError, Global};
+use std::fmt::Write;
+
+/// What is wrong with the record.
+#[derive(Clone, Copy, Debug, PartialEq, Eq, Drop)]
+pub enum RecordProblem {
+    /// A fault of its format.
+    Format(RecordFault),
+}
+
+/// How a run ended.
+#[derive(Clone, Copy, Debug, PartialEq, Eq, Drop)]
+pub enum ReplayStatus {
+    /// All was read and all was written.
+    Done,
+    /// The words are no form of the command.
+    Usage,
+    /// The record has a fault.
+    Record(RecordProblem),
+    /// An input couldn't be selected or read.
+    ReadFault,
+    /// The output couldn't be written.
+    WriteFault,
+    /// Memory ran out.
+    NoMemory,
+    /// The record has no fault, but isn't of a form that is built so far.
+    NotBuilt,
+}
+
+impl From<Memory> for ReplayStatus {
+    ghost from_gives = { λ _ e. e ≡ status.NoMemory };
+
+    fn from(_: Memory) -> ReplayStatus {
+        ReplayStatus::NoMemory
+    }
+}
+
+impl From<RecordFault> for ReplayStatus {
+    ghost from_gives = { λ fault e. e ≡ status_of_fault fault };
+
+    fn from(fault: RecordFault) -> ReplayStatus {
+        match fault {
+            RecordFault::ReadFault => ReplayStatus::ReadFault,
+            RecordFault::Memory => ReplayStatus::NoMemory,
+            fault => ReplayStatus::Record(RecordProblem::Format(fault)),
+        }
+    }
+}
+
+impl ReplayStatus {
+    /// The exit status of the program.
+    pub fn number(&self) -> u8
+        ensures { result ≡ status_number self.now }
+    {
+        match self {
+            ReplayStatus::Done => 0,
+            ReplayStatus::Usage => 2,
+            ReplayStatus::Record(_) => 4,
+            ReplayStatus::ReadFault => 5,
+            ReplayStatus::WriteFault => 6,
+            ReplayStatus::NoMemory => 7,
+            ReplayStatus::NotBuilt => 20,
+        }
+    }
+
+    /// What is printed of it: nothing of `Done`, else a line without its end.
+    pub fn fault_text(&self, alloc: Global) -> Result<Octets, Memory>
+        ensures { IfOk result (λ text. text ≡ fault_text self.now) }
+    {
+        let text = match self {
+            ReplayStatus::Done => String::new(alloc),
+            ReplayStatus::Usage => String::from_str(alloc, "usage")?,
+            ReplayStatus::Record(RecordProblem::Format(fault)) => format_text(alloc, *fault)?,
+            ReplayStatus::ReadFault => String::from_str(alloc, "read fault")?,
+            ReplayStatus::WriteFault => String::from_str(alloc, "write fault")?,
+            ReplayStatus::NoMemory => String::from_str(alloc, "no memory")?,
+            ReplayStatus::NotBuilt => String::from_str(alloc, "not built")?,
+        };
+        Ok(Items::from_vec(text.into_bytes()))
+    }
+}
+
+/// The text of a fault of the format.
+fn format_text(alloc: Global, fault: RecordFault) -> Result<String, AllocError>
+    ensures { IfOk result (λ text. string_bytes text ≡ format_text fault) }
+{
+    let mut text = String::new(alloc);
+    match fault {
+        RecordFault::BadMagic => write!(text, "record: bad magic")?,
+        RecordFault::BadKind(octet, offset) => write!(
+            text,
+            "record: bad kind {octet} at {offset}"
+        )?,
+        RecordFault::Cut(offset) => write!(text, "record: cut at {offset}")?,
+        RecordFault::TooLong(offset) => write!(text, "record: too long at {offset}")?,
+        RecordFault::TooManyEntries(offset) => write!(
+            text,
+            "record: too many entries at {offset}"
+        )?,
+        RecordFault::ReadFault => write!(text, "read fault")?,
+        RecordFault::Memory => write!(text, "no memory")?,
+    }
+    Ok(text)
+}

@@ -1,0 +1,154 @@
+//! The lines that are written for a record, report by report.
+ghost use Rattle.std.specs.Prelude.{◌≡◌, ◌≤◌, ◌^◌, ◌+◌, Some, None, length, IfOk};
+ghost use Rattle.hk_base.specs.Payload.{IsValid};
+ghost use Rattle.session_record.specs.Records.{held_octets};
+ghost use Rattle.pus_packet.specs.Packets.{split_report};
+ghost use Rattle.hk_replay.specs.Blocks as blocks;
+ghost use Rattle.hk_replay.specs.Blocks.{packet_block, split_block, body_block, structure_block};
+ghost use Rattle.hk_replay.specs.Transcripts.{no_lines, with_block, with_entry};
+
+use crate::lines::{write_report, write_values};
+use hk_base::{Key, Kind, Memory, Structure, Tailoring, get_uint, slot_of};
+use pus_packet::{TmHeader, split_tm};
+use sample_slots::{PayloadFault, read_payload};
+use session_record::Entry;
+use std::alloc::Global;
+use std::marker::Model;
+
+/// The lines so far, and the tag of the last report.
+#[derive(Drop)]
+pub struct Transcript {
+    text: String,
+    last: u64,
+}
+
+impl Model for Transcript {
+    ghost use Rattle.std.specs.String.{string_bytes};
+    ghost use Rattle.hk_replay.specs.Transcripts.{Lines};
+
+    ghost Value = { Lines };
+
+    ghost view = { λ t. record { text = string_bytes t.text; last = t.last } };
+}
+
+impl Transcript {
+    /// No line.
+    pub fn new(alloc: Global) -> Transcript
+        ensures { result ≡ no_lines }
+    {
+        Transcript {
+            text: String::new(alloc),
+            last: 0,
+        }
+    }
+
+    /// The lines.
+    pub fn as_bytes(&self) -> &[u8]
+        ensures { result.now ≡ self.now.text }
+    {
+        self.text.as_bytes()
+    }
+}
+
+/// The lines with those of one entry more, as long as all that came before has lines.
+pub fn with_entry(
+    alloc: Global,
+    tailoring: &Tailoring,
+    before: Option<Transcript>,
+    entry: &Entry,
+) -> Result<Option<Transcript>, Memory>
+    requires { length (held_octets entry.now) ≤ 2 ^ 31 }
+    ensures { IfOk result (λ after. after ≡ with_entry tailoring.now before entry.now) }
+{
+    let Some(transcript) = before else {
+        return Ok(None);
+    };
+    match entry {
+        Entry::Sent(_) => Ok(None),
+        Entry::Got(packet) => with_packet(alloc, tailoring, transcript, packet.as_slice()),
+        Entry::Line(_) => Ok(Some(transcript)),
+    }
+}
+
+/// The lines with those of a packet.
+#[tactic(auto, unfolding(crate::specs::Blocks::packet_block))]
+fn with_packet(
+    alloc: Global,
+    tailoring: &Tailoring,
+    before: Transcript,
+    packet: &[u8],
+) -> Result<Option<Transcript>, Memory>
+    requires { length packet.now ≤ 2 ^ 31 }
+    ensures { IfOk result (λ after. after ≡ with_block before (packet_block tailoring.now packet.now)) }
+{
+    let Ok((header, body)) = split_tm(tailoring, packet) else {
+        return Ok(None);
+    };
+    if !is_parameter_report(tailoring, &header) {
+        return Ok(None);
+    }
+    with_body(alloc, tailoring, before, header.tag, body)
+}
+
+/// Whether a header is of a housekeeping parameter report of the process.
+fn is_parameter_report(tailoring: &Tailoring, header: &TmHeader) -> bool
+    ensures { result ≡ blocks.is_parameter_report tailoring.now header.now }
+{
+    header.apid == tailoring.widths().apid && header.service == 3 && header.subtype == 25
+}
+
+/// The lines with those of a report with this body.
+fn with_body(
+    alloc: Global,
+    tailoring: &Tailoring,
+    before: Transcript,
+    tag: u64,
+    body: &[u8],
+) -> Result<Option<Transcript>, Memory>
+    requires { length body.now ≤ 2 ^ 31 }
+    ensures { IfOk result (λ after. after ≡ with_block before (body_block tailoring.now tag body.now)) }
+{
+    let width = tailoring.widths().structure_octets;
+    let Ok(id) = get_uint(body, width) else {
+        return Ok(None);
+    };
+    let key = Key {
+        kind: Kind::Housekeeping,
+        id: id as u32,
+    };
+    let (_, payload) = body.split_at(usize::from(width));
+    match tailoring.boot(key) {
+        Some(structure) => with_report(alloc, tailoring, before, key.id, tag, structure, payload),
+        None => Ok(None),
+    }
+}
+
+/// The lines with those of a report of this structure.
+fn with_report(
+    alloc: Global,
+    tailoring: &Tailoring,
+    before: Transcript,
+    id: u32,
+    tag: u64,
+    structure: &Structure,
+    payload: &[u8],
+) -> Result<Option<Transcript>, Memory>
+    requires size { length payload.now ≤ 2 ^ 31 }
+    requires valid { IsValid tailoring.now structure.now.def }
+    ensures { IfOk result (λ after. after ≡ with_block before (structure_block tailoring.now id tag payload.now (Some structure.now))) }
+{
+    let def = &structure.def;
+    let slot = slot_of(tailoring, tag);
+    if u64::from(def.interval) > slot || tag <= before.last {
+        return Ok(None);
+    }
+    let values = match read_payload(alloc, tailoring, def, payload) {
+        Ok(values) => values,
+        Err(PayloadFault::Memory) => return Err(Memory),
+        Err(_) => return Ok(None),
+    };
+    let mut text = before.text;
+    write_report(&mut text, id, tag, def.interval)?;
+    write_values(&mut text, def, slot - 1, values.as_slice())?;
+    Ok(Some(Transcript { text, last: tag }))
+}

@@ -141,7 +141,7 @@ number-between octets q before width behind count are enough size =
     field : List ℕ
     field = drop q octets
 
-positive : (n : ℕ) → 0 < n → (n == 0) ≡ false
+pub positive : (n : ℕ) → 0 < n → (n == 0) ≡ false
 positive n h = grind (arith, nat_tests)
 
 -- bits of which one is 1 make a number above 0

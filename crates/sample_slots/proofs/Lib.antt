@@ -2,3 +2,4 @@ pub mod Places
 pub mod Sampled
 pub mod BitsLemmas
 pub mod ReadingLemmas
+pub mod CountLemmas

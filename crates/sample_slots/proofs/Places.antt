@@ -83,7 +83,8 @@ places_are d last =
     ∙ (ap (λ ps. ps ++ flat_map (group_places last) (flat_map (λ (a : SuperList). repetitions a.params (d.interval / a.repetition) a.repetition) d.arrays)) (simple_places last d.simple)
     ∙ ap (λ ps. slot_places last d.simple ++ ps) (arrays_places last d.interval d.arrays))
 
-opened : {X Y : Type 0} (f : X → List Y) (xs : List X) (i : ℕ) (x : X) → i < length xs → x ≡ get_or xs i x → flat_map f (drop i xs) ≡ f x ++ flat_map f (drop (i + 1) xs)
+-- the next part, and what is behind it
+pub opened : {X Y : Type 0} (f : X → List Y) (xs : List X) (i : ℕ) (x : X) → i < length xs → x ≡ get_or xs i x → flat_map f (drop i xs) ≡ f x ++ flat_map f (drop (i + 1) xs)
 opened f xs i x h e = ap (λ ys. flat_map f ys) (drop_more xs i x h ∙ ap (λ y. y ∷ drop (i + 1) xs) (sym e))
 
 -- what lies in the next part

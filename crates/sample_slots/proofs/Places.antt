@@ -1,12 +1,12 @@
 -- The sample with a number.
-use Rattle.std.proofs.Common.{◌≡◌, ◌+◌, ◌-◌, ◌*◌, ◌/◌, ◌%◌, ◌<◌, ◌≤◌, ℕ, zero, suc, List, [], ◌∷◌, ◌++◌, length, take, drop, get_or, map, Option, Some, None, refl, sym, ap, subst, ◌∙◌, arith, append-nil}
+use Rattle.std.proofs.Common.{◌≡◌, ◌+◌, ◌-◌, ◌*◌, ◌/◌, ◌<◌, ℕ, zero, suc, List, [], ◌∷◌, ◌++◌, length, take, drop, get_or, Some, refl, sym, ap, ◌∙◌, arith, append-nil}
 use Rattle.std.specs.List.{slice_get, flat_map}
 use Rattle.std.specs.Option.{option_map}
 use Rattle.std.proofs.lemmas.Option.{slice_get-map, slice_get-get_or}
 use Rattle.std.proofs.lemmas.List.{length-map, length-append, take_more, drop_more, flat_map_more}
 use Rattle.std.proofs.lemmas.Grind.{flat_map-append}
 use Rattle.std.proofs.Math.Nat.{suc-mul, zero-mul}
-use Rattle.hk_base.specs.Payload.{Group, repetitions, simple_group, groups, places}
+use Rattle.hk_base.specs.Payload.{Group, repetitions, simple_group, places}
 use Rattle.hk_base.specs.declared.types.SuperList.{SuperList}
 use Rattle.hk_base.specs.declared.types.Definition.{Definition}
 use Rattle.hk_base.specs.declared.types.Place.{Place}

@@ -1,7 +1,7 @@
 -- Reading value by value, and group by group.
-use Rattle.std.proofs.Common.{◌≡◌, ◌+◌, ◌-◌, ◌*◌, ◌/◌, ◌<◌, ◌≤◌, ℕ, zero, suc, ℤ, List, [], ◌∷◌, ◌++◌, length, take, drop, get_or, map, Bool, true, false, cond, nat_lt, not, Option, Some, None, Result, Ok, Err, refl, sym, ap, subst, ◌∙◌, arith, append_assoc, append-nil, zero-add}
+use Rattle.std.proofs.Common.{◌≡◌, ◌+◌, ◌-◌, ◌*◌, ◌/◌, ◌<◌, ◌≤◌, ℕ, zero, suc, ℤ, List, [], ◌∷◌, ◌++◌, length, take, drop, get_or, Bool, true, false, cond, nat_lt, not, Option, Some, None, Result, Ok, Err, refl, sym, ap, subst, ◌∙◌, arith, append_assoc, append-nil, zero-add}
 use Rattle.std.specs.Prelude.{◌==◌, zip, flat_map, filter_map, sum_by, position, is_some, IsTrue, option_map, if◌then◌else◌}
-use Rattle.std.specs.List.{cons_option, prefix_len, AllByRecursion, All}
+use Rattle.std.specs.List.{cons_option, prefix_len, AllByRecursion}
 use Rattle.std.specs.Option.{option_or}
 use Rattle.std.proofs.lemmas.Bool.{both_ways}
 use Rattle.std.proofs.lemmas.Bool.Decides.{nat_tests}
@@ -11,8 +11,6 @@ use Rattle.std.proofs.lemmas.List.Sums.{sum_by-cons, sum_by-append}
 use Rattle.std.proofs.Math.Nat.{suc-mul, zero-mul}
 use Rattle.hk_base.specs.declared.types.SuperList.{SuperList}
 use Rattle.hk_base.specs.declared.types.Definition.{Definition}
-use Rattle.sample_slots.proofs.BitsLemmas.{positive}
-use Rattle.sample_slots.proofs.Places.{opened}
 use Rattle.hk_base.specs.TailoringParts.{TailoringParts}
 use Rattle.hk_base.specs.Parameters.{parameter, fits, bits_value}
 use Rattle.hk_base.specs.Payload.{Group, repetitions, simple_group, groups, payload_size, payload_read, bits_of, bits_values, misfit, unless_fault, groups_fault, payload_values, group_params, group_octets, ids_bits, ids_octets}

@@ -1,10 +1,9 @@
 -- A definition that is well formed under a fit tailoring has samples, and its arrays can be read.
-use Rattle.std.proofs.Common.{◌≡◌, ◌<◌, ◌≤◌, ◌%◌, ℕ, List, [], ◌∷◌, ◌++◌, length, flat_map, arith}
+use Rattle.std.proofs.Common.{◌≡◌, ◌≤◌, ◌%◌, ℕ, List, [], ◌∷◌, flat_map, arith}
 use Rattle.std.specs.Prelude.{is_some, IsTrue}
 use Rattle.hk_base.specs.Parameters.{parameter}
 use Rattle.std.specs.List.{All, AllByRecursion}
 use Rattle.std.proofs.lemmas.List.Elements.{All-from_recursion}
-use Rattle.std.proofs.Math.Nat.{mod-eq_of_lt}
 use Rattle.hk_base.specs.TailoringParts.{TailoringParts}
 use Rattle.hk_base.specs.Definitions.{IsWellFormed, IsArray}
 use Rattle.hk_base.specs.Fit.{IsFitWidths}
@@ -39,13 +38,14 @@ HasAll t ids = AllByRecursion (λ id. IsTrue (is_some (parameter t id))) ids
 readable_arrays : (t : TailoringParts) (n : ℕ) (arrays : List SuperList) → 1 ≤ n → n ≤ 4096 → AllByRecursion (IsArray t n) arrays → HasAll t (flat_map (λ a. a.params) arrays) → AllByRecursion (IsReadableArray t) arrays
 readable_arrays t n [] some most h known = tt
 readable_arrays t n (a ∷ arrays) some most h known =
-    let parts = AllByRecursion-parts _ a.params (flat_map (λ (x : SuperList). x.params) arrays) known in
-    (record {
-      known = All-from_recursion _ a.params parts.0;
-      few = h.0.few;
-      repeated = omega (arith, small_repetition n a.repetition some h.0.divides, most);
-    },
-    readable_arrays t n arrays some most h.1 parts.1)
+    let parts = AllByRecursion-parts _ a.params (flat_map (λ (x : SuperList). x.params) arrays) known in (
+      record {
+        known = All-from_recursion _ a.params parts.0;
+        few = h.0.few;
+        repeated = omega (arith, small_repetition n a.repetition some h.0.divides, most);
+      },
+      readable_arrays t n arrays some most h.1 parts.1,
+    )
 
 pub readable : (t : TailoringParts) (d : Definition) → IsSampled d → IsWellFormed t d → All (IsReadableArray t) d.arrays
 readable t d sampled formed =

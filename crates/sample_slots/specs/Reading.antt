@@ -1,5 +1,5 @@
 -- Reading a payload from left to right.
-use Rattle.std.specs.Prelude.{◌≡◌, ℕ, ◌+◌, ◌*◌, ◌/◌, ◌≤◌, ⊤, List, [], ◌∷◌, ◌++◌, length, take, drop, filter_map, ℤ, Bool, ◌==◌, Option, Result, Ok, Err, is_some, option_map, IsTrue, if◌then◌else◌}
+use Rattle.std.specs.Prelude.{◌≡◌, ℕ, ◌+◌, ◌*◌, ◌/◌, ◌≤◌, ⊤, List, [], ◌∷◌, ◌++◌, length, take, filter_map, ℤ, Bool, ◌==◌, Result, Ok, Err, is_some, option_map, IsTrue, if◌then◌else◌}
 use Rattle.std.specs.List.{list_any, All}
 use Rattle.hk_base.specs.TailoringParts.{TailoringParts}
 use Rattle.hk_base.specs.Parameters.{parameter, fits, bits_value}

@@ -10,7 +10,9 @@ ghost use Rattle.sample_slots.specs.Slots.{IsSampled};
 ghost use Rattle.sample_slots.specs.Reading.{Gives, GoesOn, AreKnown, IsReadableArray, array_groups, array_octets, simple_count, value_read, values_after, groups_after};
 
 use crate::bits::{get_bits, is_dirty};
-use hk_base::{Definition, Form, Items, Param, PayloadFault, SuperList, Tailoring, Value, fits, sign_extended};
+use hk_base::{
+    Definition, Form, Items, Param, PayloadFault, SuperList, Tailoring, Value, fits, sign_extended,
+};
 use std::alloc::Global;
 
 /// The number of octets of a payload.
@@ -122,7 +124,13 @@ fn read_array<'a>(
 {
     let mut rest = bytes;
     for repetition in 0..array.repetition {
-        rest = read_group(tailoring, array.params.as_slice(), first + repetition, rest, values)?;
+        rest = read_group(
+            tailoring,
+            array.params.as_slice(),
+            first + repetition,
+            rest,
+            values,
+        )?;
     }
     Ok(rest)
 }

@@ -1,7 +1,7 @@
-use Rattle.std.proofs.Common.{◌≡◌, ◌+◌, ◌*◌, ◌/◌, ◌∷◌, ℕ, List, Bool, false, true, length, take, drop, arith, ap, sym, ◌∙◌, Ok, Err}
+use Rattle.std.proofs.Common.{◌≡◌, ◌+◌, ◌*◌, ◌/◌, ◌∷◌, ℕ, List, false, true, take, drop, arith, ap, sym, ◌∙◌}
 use Rattle.std.proofs.lemmas.Result.{err_from_is_err_and}
-use Rattle.hk_base.specs.Payload.{Group, bits_of, ids_bits}
-use Rattle.sample_slots.specs.Reading.{is_set, values_after, groups_after, Fails}
+use Rattle.hk_base.specs.Payload.{bits_of, ids_bits}
+use Rattle.sample_slots.specs.Reading.{is_set, values_after, groups_after}
 use Rattle.sample_slots.proofs.BitsLemmas.{drop-bits_of}
 use Rattle.sample_slots.proofs.ReadingLemmas.{group-ok, group-dirty, group-fails, fails-on}
 use Rattle.sample_slots.proofs.payload.read_group.Goals as goal

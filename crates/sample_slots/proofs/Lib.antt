@@ -3,3 +3,4 @@ pub mod Sampled
 pub mod BitsLemmas
 pub mod ReadingLemmas
 pub mod CountLemmas
+pub mod PayloadLaws

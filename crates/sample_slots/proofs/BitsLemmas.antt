@@ -78,7 +78,7 @@ drop-sum (suc m) n zero xs e = absurd (omega (arith, e))
 drop-sum (suc m) n (suc k) [] e = sym (drop-nil n)
 drop-sum (suc m) n (suc k) (x ∷ xs) e = drop-sum m n k xs (omega (arith, e))
 
-take-take : {X : Type 0} (w m : ℕ) (xs : List X) → w ≤ m → take w (take m xs) ≡ take w xs
+pub take-take : {X : Type 0} (w m : ℕ) (xs : List X) → w ≤ m → take w (take m xs) ≡ take w xs
 take-take zero m xs le = refl
 take-take (suc w) zero xs le = absurd (omega (arith, le))
 take-take (suc w) (suc m) [] le = refl

@@ -4,3 +4,4 @@ pub mod BitsLemmas
 pub mod ReadingLemmas
 pub mod CountLemmas
 pub mod PayloadLaws
+pub mod SpellingLaws

@@ -1,9 +1,8 @@
 -- A payload is read as the values that it is of.
-use Rattle.std.proofs.Common.{arith, ◌≡◌, ℕ, zero, suc, ◌+◌, ◌-◌, ◌*◌, ◌/◌, ◌%◌, ◌^◌, ◌<◌, ◌≤◌, refl, sym, ◌∙◌, ap, subst, List, [], ◌∷◌, ◌++◌, length, length-append, map, Bool, true, false, ◌==◌, ◌⊎◌, inl, inr, Option, Some, None, nat_lt, cond}
-use Rattle.std.proofs.Math.Nat.{pow-suc, div-add-mod, mod-lt, mod-eq_of_lt}
+use Rattle.std.proofs.Common.{arith, ◌≡◌, ℕ, zero, suc, ◌+◌, ◌-◌, ◌*◌, ◌/◌, ◌^◌, ◌<◌, ◌≤◌, refl, sym, ◌∙◌, ap, subst, List, [], ◌∷◌, ◌++◌, length, length-append, map, Bool, true, false, ◌==◌, ◌⊎◌, inl, inr, Option, Some, None, nat_lt, cond}
+use Rattle.std.proofs.Math.Nat.{pow-suc, mod-eq_of_lt}
 use Rattle.std.proofs.Math.Pow.{suc_ones}
 use Rattle.std.proofs.Math.Seq.{take-append_seam, drop-append_seam}
-use Rattle.std.proofs.lemmas.Nat.{mod-mul-add}
 use Rattle.std.proofs.lemmas.List.{append_assoc, length-replicate, take-append-drop}
 use Rattle.std.proofs.lemmas.List.Sums.{sum_by-cons}
 use Rattle.std.proofs.lemmas.Option.{same_Some}
@@ -146,10 +145,10 @@ values-length (p ∷ ps) (v ∷ vs) h =
     let d = sum_by-cons (λ (q : Param). q.bits) p ps in
     omega (arith, a, b, c, d)
 
-take-front : (xs ys : List ℕ) (n : ℕ) → length xs ≡ n → take n (xs ++ ys) ≡ xs
+pub take-front : {X : Type 0} (xs ys : List X) (n : ℕ) → length xs ≡ n → take n (xs ++ ys) ≡ xs
 take-front xs ys n e = ap (λ k. take k (xs ++ ys)) (sym e) ∙ take-append_seam xs ys
 
-drop-front : (xs ys : List ℕ) (n : ℕ) → length xs ≡ n → drop n (xs ++ ys) ≡ ys
+pub drop-front : {X : Type 0} (xs ys : List X) (n : ℕ) → length xs ≡ n → drop n (xs ++ ys) ≡ ys
 drop-front xs ys n e = ap (λ k. drop k (xs ++ ys)) (sym e) ∙ drop-append_seam xs ys
 
 values-back : (ps : List Param) (vs : List ℤ) (rest : List ℕ) → FitAll ps vs → bits_values ps (values_bits ps vs ++ rest) ≡ vs
@@ -196,7 +195,7 @@ find-all P test (x ∷ xs) p h e = go (test x) e (find-all P test xs p h.1)
     go false f ih = ih f
 
 -- the places of parameters that are sampled together
-abbrev placed : ℕ → List ℕ → List Place
+abbrev pub placed : ℕ → List ℕ → List Place
 placed slot ids = map (λ id. record { param = id; slot = slot }) ids
 
 module _ (t : TailoringParts) (fit : AllByRecursion (IsFitParam t.widths) t.params) where

@@ -20,7 +20,7 @@ use Rattle.hk_base.specs.declared.types.PayloadFault.TheVariants.{WrongSize, Wro
 use Rattle.sample_slots.specs.Reading.{AreKnown, GoesOn, simple_count, array_groups, array_octets, is_set, value_read, onto, values_after, groups_after, Fails}
 
 -- a position in a list with one more member in front
-position-cons : {X : Type 0} (test : X → Bool) (x : X) (xs : List X) → position test (x ∷ xs) ≡ cond (test x) (Some 0) (option_map suc (position test xs))
+pub position-cons : {X : Type 0} (test : X → Bool) (x : X) (xs : List X) → position test (x ∷ xs) ≡ cond (test x) (Some 0) (option_map suc (position test xs))
 position-cons {X} test x xs = go (test x)
   where
     n : ℕ

@@ -10,3 +10,6 @@ pub use hk_base::{PayloadFault, Place};
 pub use laws::payloads;
 pub use payload::{read_payload, size};
 pub use slots::{place, place_count};
+
+#[cfg(test)]
+mod tests;

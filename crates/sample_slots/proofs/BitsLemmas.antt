@@ -1,7 +1,6 @@
 -- The bits of octets.
-use Rattle.std.proofs.Common.{◌≡◌, ◌+◌, ◌-◌, ◌*◌, ◌/◌, ◌%◌, ◌^◌, ◌<◌, ◌≤◌, ℕ, zero, suc, List, [], ◌∷◌, ◌++◌, length, take, drop, get_or, Bool, true, false, refl, sym, ap, subst, ◌∙◌, arith, append_assoc}
+use Rattle.std.proofs.Common.{◌≡◌, ◌+◌, ◌*◌, ◌/◌, ◌%◌, ◌^◌, ◌<◌, ◌≤◌, ℕ, zero, suc, List, [], ◌∷◌, ◌++◌, length, take, drop, false, refl, sym, ap, subst, ◌∙◌, arith}
 use Rattle.std.specs.Prelude.{◌==◌, not}
-use Rattle.std.specs.List.{list_any, AllByRecursion}
 use Rattle.std.specs.Int.Digits.{AllBelowBase}
 use Rattle.std.proofs.lemmas.Int.Digits.{number_lt}
 use Rattle.std.proofs.lemmas.List.{length-append, take-append-drop, drop-take, length-take-le, length-drop}
@@ -12,7 +11,7 @@ use Rattle.std.proofs.Math.Nat.{mod-lt, mod-eq_of_lt}
 use Rattle.hk_base.specs.Fields.{digits, number, number_of}
 use Rattle.hk_base.specs.Payload.{bits_of}
 use Rattle.sample_slots.specs.Reading.{is_set}
-use Rattle.hk_base.proofs.FieldLemmas.{length-digits, number-digits, pow_pos}
+use Rattle.hk_base.proofs.FieldLemmas.{number-digits, pow_pos}
 use Rattle.hk_base.proofs.Membership.{AllByRecursion-append, AllByRecursion-parts}
 use Rattle.hk_base.proofs.Numbers.{IsBytes, IsBytes-take, number_is}
 use Rattle.hk_base.proofs.ValueLemmas.{bits_of_octets}
@@ -79,7 +78,7 @@ drop-sum (suc m) n zero xs e = absurd (omega (arith, e))
 drop-sum (suc m) n (suc k) [] e = sym (drop-nil n)
 drop-sum (suc m) n (suc k) (x ∷ xs) e = drop-sum m n k xs (omega (arith, e))
 
-take-take : {X : Type 0} (w m : ℕ) (xs : List X) → w ≤ m → take w (take m xs) ≡ take w xs
+pub take-take : {X : Type 0} (w m : ℕ) (xs : List X) → w ≤ m → take w (take m xs) ≡ take w xs
 take-take zero m xs le = refl
 take-take (suc w) zero xs le = absurd (omega (arith, le))
 take-take (suc w) (suc m) [] le = refl
@@ -141,7 +140,7 @@ number-between octets q before width behind count are enough size =
     field : List ℕ
     field = drop q octets
 
-positive : (n : ℕ) → 0 < n → (n == 0) ≡ false
+pub positive : (n : ℕ) → 0 < n → (n == 0) ≡ false
 positive n h = grind (arith, nat_tests)
 
 -- bits of which one is 1 make a number above 0

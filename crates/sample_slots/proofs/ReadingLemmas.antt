@@ -1,23 +1,26 @@
 -- Reading value by value, and group by group.
-use Rattle.std.proofs.Common.{◌≡◌, ◌+◌, ◌-◌, ◌*◌, ◌/◌, ◌<◌, ◌≤◌, ℕ, zero, suc, ℤ, List, [], ◌∷◌, ◌++◌, length, take, drop, get_or, map, Bool, true, false, cond, nat_lt, not, Option, Some, None, Result, Ok, Err, refl, sym, ap, subst, ◌∙◌, arith, append_assoc, append-nil}
-use Rattle.std.specs.Prelude.{zip, filter_map, sum_by, position, is_some, IsTrue, option_map}
-use Rattle.std.specs.List.{cons_option, prefix_len, AllByRecursion, All}
+use Rattle.std.proofs.Common.{◌≡◌, ◌+◌, ◌-◌, ◌*◌, ◌/◌, ◌<◌, ◌≤◌, ℕ, zero, suc, ℤ, List, [], ◌∷◌, ◌++◌, length, take, drop, get_or, Bool, true, false, cond, nat_lt, not, Option, Some, None, Result, Ok, Err, refl, sym, ap, subst, ◌∙◌, arith, append_assoc, append-nil, zero-add}
+use Rattle.std.specs.Prelude.{◌==◌, zip, flat_map, filter_map, sum_by, position, is_some, IsTrue, option_map, if◌then◌else◌}
+use Rattle.std.specs.List.{cons_option, prefix_len, AllByRecursion}
 use Rattle.std.specs.Option.{option_or}
 use Rattle.std.proofs.lemmas.Bool.{both_ways}
 use Rattle.std.proofs.lemmas.Bool.Decides.{nat_tests}
 use Rattle.std.proofs.lemmas.List.{length-append, length_push, drop_more}
 use Rattle.std.proofs.lemmas.List.Elements.{recursion_from_All}
-use Rattle.std.proofs.lemmas.List.Sums.{sum_by-cons}
+use Rattle.std.proofs.lemmas.List.Sums.{sum_by-cons, sum_by-append}
+use Rattle.std.proofs.Math.Nat.{suc-mul, zero-mul}
+use Rattle.hk_base.specs.declared.types.SuperList.{SuperList}
+use Rattle.hk_base.specs.declared.types.Definition.{Definition}
 use Rattle.hk_base.specs.TailoringParts.{TailoringParts}
 use Rattle.hk_base.specs.Parameters.{parameter, fits, bits_value}
-use Rattle.hk_base.specs.Payload.{Group, bits_of, bits_values, misfit, unless_fault, groups_fault, payload_values, group_params, group_octets, ids_bits}
+use Rattle.hk_base.specs.Payload.{Group, repetitions, simple_group, groups, payload_size, payload_read, bits_of, bits_values, misfit, unless_fault, groups_fault, payload_values, group_params, group_octets, ids_bits, ids_octets}
 use Rattle.hk_base.specs.declared.types.Param.{Param}
 use Rattle.hk_base.specs.declared.types.PayloadFault.{PayloadFault}
 use Rattle.hk_base.specs.declared.types.PayloadFault.TheVariants.{WrongSize, WrongValue, Padding, Memory}
-use Rattle.sample_slots.specs.Reading.{AreKnown, is_set, value_read, onto, values_after, groups_after, Fails}
+use Rattle.sample_slots.specs.Reading.{AreKnown, GoesOn, simple_count, array_groups, array_octets, is_set, value_read, onto, values_after, groups_after, Fails}
 
 -- a position in a list with one more member in front
-position-cons : {X : Type 0} (test : X → Bool) (x : X) (xs : List X) → position test (x ∷ xs) ≡ cond (test x) (Some 0) (option_map suc (position test xs))
+pub position-cons : {X : Type 0} (test : X → Bool) (x : X) (xs : List X) → position test (x ∷ xs) ≡ cond (test x) (Some 0) (option_map suc (position test xs))
 position-cons {X} test x xs = go (test x)
   where
     n : ℕ
@@ -125,7 +128,7 @@ bits-more t ids i p h known =
     ∙ sum_by-cons (λ (q : Param). q.bits) p (filter_map (parameter t) (drop (i + 1) ids)))
 
 -- known parameters are as many as their IDs
-length-known : (t : TailoringParts) (ids : List ℕ) → AllByRecursion (λ id. IsTrue (is_some (parameter t id))) ids → length (filter_map (parameter t) ids) ≡ length ids
+pub length-known : (t : TailoringParts) (ids : List ℕ) → AllByRecursion (λ id. IsTrue (is_some (parameter t id))) ids → length (filter_map (parameter t) ids) ≡ length ids
 length-known t [] h = refl
 length-known t (id ∷ ids) h = go (parameter t id) h.0 (length-known t ids h.1)
   where
@@ -133,7 +136,7 @@ length-known t (id ∷ ids) h = go (parameter t id) h.0 (length-known t ids h.1)
     go None some rest = absurd (both_ways false refl some)
     go (Some p) some rest = ap suc rest
 
-length-bits_values : (ps : List Param) (bits : List ℕ) → length (bits_values ps bits) ≡ length ps
+pub length-bits_values : (ps : List Param) (bits : List ℕ) → length (bits_values ps bits) ≡ length ps
 length-bits_values [] bits = refl
 length-bits_values (p ∷ ps) bits = ap suc (length-bits_values ps (drop p.bits bits))
 
@@ -204,3 +207,66 @@ group-fails t old number g gs bits e h =
     go : (f padding later : Option PayloadFault) (values all : List ℤ) → onto old (unless_fault f values) ≡ Err e → onto old (unless_fault (option_or (option_or f padding) later) all) ≡ Err e
     go None padding later values all h = absurd (let no : Ok (old ++ values) ≡ Err e → ⊥ = λ e. cc in no h)
     go (Some f) padding later values all h = h
+
+-- the next of the repetitions that are left
+pub repetitions-more : (ids : List ℕ) (spacing r i : ℕ) → i < r → repetitions ids spacing (r - i) ≡ record { lag = (r - (i + 1)) * spacing; params = ids } ∷ repetitions ids spacing (r - (i + 1))
+repetitions-more ids spacing r i h = let e : r - i ≡ suc (r - (i + 1)) = omega (arith, h) in ap (λ k. repetitions ids spacing k) e
+
+-- none are left
+pub repetitions-end : (ids : List ℕ) (spacing r i : ℕ) → r ≤ i → repetitions ids spacing (r - i) ≡ []
+repetitions-end ids spacing r i h = let e : r - i ≡ 0 = omega (arith, h) in ap (λ k. repetitions ids spacing k) e
+
+-- the octets of the repetitions of an array
+pub sum-repetitions : (t : TailoringParts) (ids : List ℕ) (spacing r : ℕ) → sum_by (group_octets t) (repetitions ids spacing r) ≡ r * ids_octets t.params ids
+sum-repetitions t ids spacing zero = sym (zero-mul (ids_octets t.params ids))
+sum-repetitions t ids spacing (suc r) =
+    sum_by-cons (group_octets t) (record { lag = r * spacing; params = ids }) (repetitions ids spacing r)
+    ∙ omega (arith, sum-repetitions t ids spacing r, suc-mul r (ids_octets t.params ids))
+
+-- the octets of arrays
+pub sum-arrays : (t : TailoringParts) (interval : ℕ) (arrays : List SuperList) → sum_by (group_octets t) (flat_map (array_groups interval) arrays) ≡ sum_by (array_octets t) arrays
+sum-arrays t interval [] = refl
+sum-arrays t interval (a ∷ arrays) =
+    sum_by-append (group_octets t) (array_groups interval a) (flat_map (array_groups interval) arrays)
+    ∙ omega (arith, sum-repetitions t a.params (interval / a.repetition) a.repetition, sum-arrays t interval arrays, sum_by-cons (array_octets t) a arrays)
+
+-- the octets of the next array, and of those after it
+pub sum-more : (t : TailoringParts) (arrays : List SuperList) (i : ℕ) (a : SuperList) → i < length arrays → a ≡ get_or arrays i a
+    → sum_by (array_octets t) (drop i arrays) ≡ array_octets t a + sum_by (array_octets t) (drop (i + 1) arrays)
+sum-more t arrays i a h is =
+    ap (λ xs. sum_by (array_octets t) xs) (drop_more arrays i a h ∙ ap (λ x. x ∷ drop (i + 1) arrays) (sym is)) ∙ sum_by-cons (array_octets t) a (drop (i + 1) arrays)
+
+-- the octets of simple parameters
+sum-simple : (t : TailoringParts) (ids : List ℕ) → sum_by (group_octets t) (simple_group ids) ≡ ids_octets t.params ids
+sum-simple t [] = refl
+sum-simple t (id ∷ ids) = zero-add (ids_octets t.params (id ∷ ids))
+
+-- the octets of a payload
+pub size-parts : (t : TailoringParts) (d : Definition) → payload_size t d ≡ ids_octets t.params d.simple + sum_by (array_octets t) d.arrays
+size-parts t d =
+    sum_by-append (group_octets t) (simple_group d.simple) (flat_map (array_groups d.interval) d.arrays)
+    ∙ omega (arith, sum-simple t d.simple, sum-arrays t d.interval d.arrays)
+
+-- no group is left
+pub groups-end : (t : TailoringParts) (values : List ℤ) (number interval : ℕ) (arrays : List SuperList) (bits : List ℕ) → arrays ≡ [] → groups_after t values number (flat_map (array_groups interval) arrays) bits ≡ Ok values
+groups-end t values number interval arrays bits e = ap (λ xs. groups_after t values number (flat_map (array_groups interval) xs) bits) e ∙ ap Ok (append-nil values)
+
+-- one group of simple parameters, where there are any
+pub goes-simple : {X : Type 0} (view : X → List ℕ) (t : TailoringParts) (old new : List ℤ) (ids octets : List ℕ) (result : Result X PayloadFault) → (length ids == 0) ≡ false → old ≡ []
+    → GoesOn view t old new 0 1 (record { lag = 0; params = ids } ∷ []) octets result → GoesOn view t [] new 0 (simple_count ids) (simple_group ids) octets result
+goes-simple view t old new [] octets result some start goes = absurd (both_ways true some refl)
+goes-simple view t old new (id ∷ ids) octets result some start goes = subst (λ values. GoesOn view t values new 0 1 (record { lag = 0; params = id ∷ ids } ∷ []) octets result) start goes
+
+onto-nothing : (read : Result (List ℤ) PayloadFault) → onto [] read ≡ read
+onto-nothing (Ok values) = refl
+onto-nothing (Err fault) = refl
+
+-- where the size is right, a payload is read group by group
+pub payload-groups : (t : TailoringParts) (d : Definition) (octets : List ℕ) → (payload_size t d == length octets) ≡ true → payload_read t d octets ≡ groups_after t [] 0 (groups d) (bits_of octets)
+payload-groups t d octets size =
+    ap (λ b. unless_fault (if b then groups_fault t (groups d) 0 0 (bits_of octets) else Some (WrongSize (payload_size t d) (length octets))) (payload_values t (groups d) (bits_of octets))) size
+    ∙ sym (onto-nothing (unless_fault (groups_fault t (groups d) 0 0 (bits_of octets)) (payload_values t (groups d) (bits_of octets))))
+
+pub payload-wrong_size : (t : TailoringParts) (d : Definition) (octets : List ℕ) → (payload_size t d == length octets) ≡ false → payload_read t d octets ≡ Err (WrongSize (payload_size t d) (length octets))
+payload-wrong_size t d octets size =
+    ap (λ b. unless_fault (if b then groups_fault t (groups d) 0 0 (bits_of octets) else Some (WrongSize (payload_size t d) (length octets))) (payload_values t (groups d) (bits_of octets))) size

@@ -1,9 +1,9 @@
 -- Reading a payload from left to right.
-use Rattle.std.specs.Prelude.{◌≡◌, ℕ, ◌+◌, ◌*◌, ◌/◌, ◌≤◌, ⊤, List, [], ◌∷◌, ◌++◌, length, take, drop, filter_map, ℤ, Bool, ◌==◌, Option, Result, Ok, Err, is_some, option_map, IsTrue, if◌then◌else◌}
+use Rattle.std.specs.Prelude.{◌≡◌, ℕ, ◌+◌, ◌*◌, ◌/◌, ◌≤◌, ⊤, List, [], ◌∷◌, ◌++◌, length, take, filter_map, ℤ, Bool, ◌==◌, Result, Ok, Err, is_some, option_map, IsTrue, if◌then◌else◌}
 use Rattle.std.specs.List.{list_any, All}
 use Rattle.hk_base.specs.TailoringParts.{TailoringParts}
 use Rattle.hk_base.specs.Parameters.{parameter, fits, bits_value}
-use Rattle.hk_base.specs.Payload.{Group, repetitions, bits_of, bits_values, misfit, unless_fault, groups_fault, payload_values}
+use Rattle.hk_base.specs.Payload.{Group, repetitions, ids_octets, bits_of, bits_values, misfit, unless_fault, groups_fault, payload_values}
 use Rattle.hk_base.specs.declared.types.Param.{Param}
 use Rattle.hk_base.specs.declared.types.SuperList.{SuperList}
 use Rattle.hk_base.specs.declared.types.PayloadFault.{PayloadFault}
@@ -22,6 +22,10 @@ pub record IsReadableArray (t : TailoringParts) (a : SuperList) : Type 0 where
 -- the groups of an array
 abbrev pub array_groups : ℕ → SuperList → List Group
 array_groups interval a = repetitions a.params (interval / a.repetition) a.repetition
+
+-- the octets of an array
+abbrev pub array_octets : TailoringParts → SuperList → ℕ
+array_octets t a = a.repetition * ids_octets t.params a.params
 
 -- the number of groups of simple parameters
 abbrev pub simple_count : List ℕ → ℕ

@@ -1,7 +1,7 @@
 -- Definitions that have samples whatever the tailoring, and the samples of their arrays.
 use Rattle.std.specs.Prelude.{◌≡◌, ℕ, ◌-◌, ◌/◌, ◌%◌, ◌≤◌, List, map, length, flat_map, All}
 use Rattle.hk_base.specs.Definitions.{parameter_ids}
-use Rattle.hk_base.specs.Payload.{Group, repetitions}
+use Rattle.hk_base.specs.Payload.{repetitions}
 use Rattle.hk_base.specs.declared.types.Place.{Place}
 use Rattle.hk_base.specs.declared.types.SuperList.{SuperList}
 use Rattle.hk_base.specs.declared.types.Definition.{Definition}

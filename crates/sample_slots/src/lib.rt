@@ -2,9 +2,14 @@
 #![tactic(auto)]
 
 mod bits;
+mod laws;
 mod payload;
 mod slots;
 
 pub use hk_base::{PayloadFault, Place};
+pub use laws::payloads;
 pub use payload::{read_payload, size};
 pub use slots::{place, place_count};
+
+#[cfg(test)]
+mod tests;

@@ -7,10 +7,12 @@ ghost use Rattle.hk_base.specs.Payload as payload;
 ghost use Rattle.hk_base.specs.Payload.{repetitions, bits_of, ids_bits, ids_octets, payload_read};
 ghost use Rattle.hk_base.specs.declared.types.PayloadFault.TheVariants.{Memory};
 ghost use Rattle.sample_slots.specs.Slots.{IsSampled};
-ghost use Rattle.sample_slots.specs.Reading.{Gives, GoesOn, AreKnown, IsReadableArray, array_groups, simple_count, value_read, values_after, groups_after};
+ghost use Rattle.sample_slots.specs.Reading.{Gives, GoesOn, AreKnown, IsReadableArray, array_groups, array_octets, simple_count, value_read, values_after, groups_after};
 
 use crate::bits::{get_bits, is_dirty};
-use hk_base::{Definition, Form, Items, Param, PayloadFault, SuperList, Tailoring, Value, fits, sign_extended};
+use hk_base::{
+    Definition, Form, Items, Param, PayloadFault, SuperList, Tailoring, Value, fits, sign_extended,
+};
 use std::alloc::Global;
 
 /// The number of octets of a payload.
@@ -44,9 +46,19 @@ pub fn read_payload(
     let mut values = Vec::new(alloc);
     let simple = def.simple.as_slice();
     let rest = read_simple(tailoring, simple, bytes, &mut values)?;
-    let first = u32::from(!simple.is_empty());
+    let first = simple_groups(simple);
     read_arrays(tailoring, def.arrays.as_slice(), first, rest, &mut values)?;
     Ok(Items::from_vec(values))
+}
+
+/// The number of groups of simple parameters.
+fn simple_groups(ids: &[u32]) -> u32
+    ensures { result ≡ simple_count ids.now }
+{
+    match ids {
+        [] => 0,
+        _ => 1,
+    }
 }
 
 /// Reads the simple parameters, which are one group where there are any, and gives the octets behind them.
@@ -82,8 +94,8 @@ fn read_arrays(
     requires few { length arrays.now ≤ 255 }
     requires first { first ≤ 1 }
     requires count { length values.old.items ≤ 255 }
-    requires whole { (interval : ℕ) → length bytes.now ≡ sum_by (payload.group_octets tailoring.now) (flat_map (array_groups interval) arrays.now) }
-    ensures values { (interval : ℕ) → Gives (λ _. values.new.items) result (groups_after tailoring.now values.old.items first (flat_map (array_groups interval) arrays.now) (bits_of bytes.now)) }
+    requires whole { length bytes.now ≡ sum_by (array_octets tailoring.now) arrays.now }
+    ensures { (interval : ℕ) → Gives (λ _. values.new.items) result (groups_after tailoring.now values.old.items first (flat_map (array_groups interval) arrays.now) (bits_of bytes.now)) }
 {
     let mut rest = bytes;
     let mut group = first;
@@ -105,14 +117,20 @@ fn read_array<'a>(
     requires readable { IsReadableArray tailoring.now array.now }
     requires first { first ≤ 1044481 }
     requires count { length values.old.items ≤ 266342655 }
-    requires within { array.now.repetition * ids_octets tailoring.now.params array.now.params ≤ length bytes.now }
+    requires within { array_octets tailoring.now array.now ≤ length bytes.now }
     ensures values { (spacing : ℕ) → GoesOn (λ rest. rest.now) tailoring.now values.old.items values.new.items first (first + array.now.repetition) (repetitions array.now.params spacing array.now.repetition) bytes.now result }
-    ensures left { IfOk result (λ rest. length rest.now + array.now.repetition * ids_octets tailoring.now.params array.now.params ≡ length bytes.now) }
+    ensures left { IfOk result (λ rest. length rest.now + array_octets tailoring.now array.now ≡ length bytes.now) }
     ensures count { OnOk result (length values.new.items ≡ length values.old.items + array.now.repetition * length array.now.params) }
 {
     let mut rest = bytes;
     for repetition in 0..array.repetition {
-        rest = read_group(tailoring, array.params.as_slice(), first + repetition, rest, values)?;
+        rest = read_group(
+            tailoring,
+            array.params.as_slice(),
+            first + repetition,
+            rest,
+            values,
+        )?;
     }
     Ok(rest)
 }

@@ -1,5 +1,5 @@
 use Rattle.std.proofs.Common.{◌≡◌, ◌≤◌, ◌+◌, ◌-◌, ◌*◌, ◌/◌, ◌%◌, ◌^◌, ℕ, List, length, take, drop, bit_and, arith, ap, sym, ◌∙◌}
-use Rattle.std.proofs.lemmas.Nat.{one_shl, and_mask, div-add-mod'}
+use Rattle.std.proofs.lemmas.Nat.{one_shl, and_mask}
 use Rattle.hk_base.specs.Fields.{number, number_of}
 use Rattle.hk_base.specs.Payload.{bits_of}
 use Rattle.sample_slots.proofs.BitsLemmas.{number-between}

@@ -1,10 +1,10 @@
-use Rattle.std.proofs.Common.{◌≡◌, ◌≤◌, ◌+◌, ◌++◌, ◌∷◌, [], ℕ, ℤ, List, FitsSigned, length, take, drop, get_or, rules, arith, ap, sym, subst, ◌∙◌, Ok, Err, Some}
+use Rattle.std.proofs.Common.{◌≡◌, ◌+◌, ◌++◌, ◌∷◌, [], ℕ, ℤ, List, FitsSigned, length, drop, rules, arith, ap, sym, ◌∙◌}
 use Rattle.std.specs.Int.{w128}
 use Rattle.std.proofs.lemmas.Int.{to_z-of_z}
 use Rattle.std.proofs.lemmas.List.{drop_all, length_push}
 use Rattle.std.proofs.lemmas.Result.{err_from_is_err_and}
-use Rattle.hk_base.specs.Payload.{bits_of, ids_bits}
-use Rattle.sample_slots.specs.Reading.{values_after, value_read, Fails}
+use Rattle.hk_base.specs.Payload.{bits_of}
+use Rattle.sample_slots.specs.Reading.{values_after}
 use Rattle.sample_slots.proofs.BitsLemmas.{drop-sum}
 use Rattle.sample_slots.proofs.ReadingLemmas.{read-more, read-fails, read-end, bits-more, fails-so}
 use Rattle.sample_slots.proofs.payload.read_values.Goals as goal

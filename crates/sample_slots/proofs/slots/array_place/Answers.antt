@@ -1,4 +1,4 @@
-use Rattle.std.proofs.Common.{◌≡◌, ◌<◌, ◌/◌, ◌%◌, ◌*◌, ◌+◌, ◌-◌, ℕ, List, length, get_or, arith, ap, sym, ◌∙◌, Some}
+use Rattle.std.proofs.Common.{◌≡◌, ◌/◌, ◌%◌, ◌*◌, ◌-◌, ℕ, List, length, get_or, arith, ap, sym, ◌∙◌, Some}
 use Rattle.std.proofs.lemmas.Nat.{div-add-mod', div_below, mod_below}
 use Rattle.sample_slots.proofs.Places.{array_place_at}
 use Rattle.sample_slots.proofs.slots.array_place.Goals as goal

@@ -1,4 +1,4 @@
-use Rattle.std.proofs.Common.{◌≡◌, ◌<◌, ◌+◌, ◌-◌, ℕ, List, length, get_or, arith, ap, subst, sym, ◌∙◌}
+use Rattle.std.proofs.Common.{◌<◌, ◌-◌, ℕ, List, length, get_or, arith, ap, subst, sym, ◌∙◌}
 use Rattle.hk_base.specs.declared.types.SuperList.{SuperList}
 use Rattle.sample_slots.proofs.Places.{in_arrays, in_first, in_later, length-array_places}
 use Rattle.sample_slots.specs.Slots.{array_places}

@@ -1,0 +1,73 @@
+ghost use Rattle.std.specs.Prelude.{◌≤◌, length};
+
+use crate::{PayloadFault, Place, place, place_count, read_payload, size};
+use hk_base::{Key, Kind, Tailoring, Value, builtin};
+use std::alloc::Global;
+use std::process::Abort;
+use std::test::Fail;
+
+const SECOND: Key = Key {
+    kind: Kind::Housekeeping,
+    id: 2,
+};
+
+const STATUS: Key = Key {
+    kind: Kind::Diagnostic,
+    id: 1,
+};
+
+#[test]
+fn places_of_an_array(rt: HostRuntime) -> Result<(), Fail> {
+    let tailoring = builtin(rt.alloc())?;
+    let def = &tailoring.boot(SECOND).ok_or("no structure")?.def;
+    assert_eq!(rt; size(&tailoring, def), 6);
+    assert_eq!(rt; place_count(def), 5);
+    assert_eq!(rt; def.interval, 8);
+    let slots = [(1, 7), (3, 1), (3, 3), (3, 5), (3, 7)];
+    for (number, (param, slot)) in (0..).zip(slots) {
+        assert_eq!(rt; place(def, 7, number), Some(Place { param, slot }));
+    }
+    assert_eq!(rt; place(def, 7, 5), None);
+    Ok(())
+}
+
+#[test]
+fn payloads_are_read(rt: HostRuntime) -> Result<(), Fail> {
+    let alloc = rt.alloc();
+    let tailoring = builtin(alloc)?;
+    let cases: [(Key, &[u8], Result<&[Value], PayloadFault>); 6] = [
+        (SECOND, &[0, 1, 10, 11, 12, 13], Ok(&[1, 10, 11, 12, 13])),
+        (SECOND, &[0, 1], Err(PayloadFault::WrongSize(6, 2))),
+        (
+            SECOND,
+            &[0, 1, 10, 11, 12, 13, 14],
+            Err(PayloadFault::WrongSize(6, 7)),
+        ),
+        (STATUS, &[1, 7], Ok(&[1, 7])),
+        (STATUS, &[2, 3], Err(PayloadFault::WrongValue(0))),
+        (STATUS, &[1, 3], Err(PayloadFault::WrongValue(1))),
+    ];
+    for (key, bytes, expected) in cases {
+        check(&rt, alloc, &tailoring, key, bytes, expected)?;
+    }
+    Ok(())
+}
+
+fn check(
+    rt: &impl Abort,
+    alloc: Global,
+    tailoring: &Tailoring,
+    key: Key,
+    bytes: &[u8],
+    expected: Result<&[Value], PayloadFault>,
+) -> Result<(), Fail>
+    requires { length bytes.now ≤ 16 }
+{
+    let def = &tailoring.boot(key).ok_or("no structure")?.def;
+    match (read_payload(alloc, tailoring, def, bytes), expected) {
+        (Ok(values), Ok(expected)) => assert!(rt; values.as_slice() == expected),
+        (Err(fault), Err(expected)) => assert_eq!(rt; fault, expected),
+        (found, _) => assert!(rt; false, "{found:?}"),
+    }
+    Ok(())
+}

@@ -1,0 +1,11 @@
+//! The record of a session: a header and entries in order, each with the offset of its first octet.
+#![tactic(auto)]
+
+mod entry;
+mod found;
+mod header;
+mod held;
+mod reader;
+
+pub use entry::{Entry, RecordFault, WriteFault};
+pub use reader::RecordReader;

@@ -1,1 +1,3 @@
 pub mod HeldLemmas
+pub mod NextLemmas
+pub mod ReadingLemmas

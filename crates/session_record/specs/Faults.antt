@@ -13,3 +13,16 @@ abbrev pub lasting : RecordFault → Option RecordFault
 lasting ReadFault = None
 lasting Memory = None
 lasting fault = Some fault
+
+-- a fault that isn't one of the octets
+abbrev pub IsReadError : RecordFault → Type 0
+IsReadError ReadFault = Unit {0}
+IsReadError Memory = Unit {0}
+IsReadError fault = ⊥
+
+-- a fault of an entry
+abbrev pub IsEntryFault : RecordFault → Type 0
+IsEntryFault BadMagic = ⊥
+IsEntryFault ReadFault = ⊥
+IsEntryFault Memory = ⊥
+IsEntryFault fault = Unit {0}

@@ -1,6 +1,7 @@
 -- An entry among octets that were read, and one of its own.
 use Rattle.std.specs.Prelude.{◌≡◌, ℕ, ◌+◌, List, length, Option, Some, None, Result, Ok, Err, IfOk, IfSome}
-use Rattle.session_record.specs.Steps.{IsEntryFault, HasRoomFor}
+use Rattle.session_record.specs.Faults.{IsEntryFault}
+use Rattle.session_record.specs.Steps.{HasRoomFor}
 use Rattle.hk_base.specs.declared.types.Memory.{Memory}
 use Rattle.session_record.specs.declared.entry.Entry.{Entry}
 use Rattle.session_record.specs.declared.entry.Entry.TheVariants as entry

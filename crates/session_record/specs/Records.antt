@@ -24,15 +24,18 @@ header_of known long = record { known = known; long = long }
 abbrev pub header_octets : Header → List ℕ
 header_octets h = (if h.long then codes "HKREC2" else codes "HKREC1") ++ ((if h.known then codes "K" else codes "U") ++ 10 ∷ [])
 
--- the header that octets begin with
-abbrev pub header_in : List ℕ → Option Header
-header_in octets =
-    let first = take 8 octets in
+-- the header that octets spell
+abbrev pub header_spelled : List ℕ → Option Header
+header_spelled first =
     if bytes_eq first (header_octets (header_of true false)) then Some (header_of true false)
     else if bytes_eq first (header_octets (header_of false false)) then Some (header_of false false)
     else if bytes_eq first (header_octets (header_of true true)) then Some (header_of true true)
     else if bytes_eq first (header_octets (header_of false true)) then Some (header_of false true)
     else None
+
+-- the header that octets begin with
+abbrev pub header_in : List ℕ → Option Header
+header_in octets = header_spelled (take 8 octets)
 
 -- what an entry holds
 abbrev pub held_octets : Entry → List ℕ

@@ -1,6 +1,7 @@
 -- The steps of a reader.
 use Rattle.std.specs.Prelude.{◌≡◌, ℕ, ◌+◌, ◌-◌, ◌<◌, ◌≤◌, List, [], length, drop, Bool, true, false, nat_le, Option, Some, None, Result, Ok, Err, IfSome}
 use Rattle.session_record.specs.Records.{Header, header_in, next_entry, entry_size, most_octets}
+use Rattle.session_record.specs.Faults.{IsEntryFault}
 use Rattle.session_record.specs.Reading.{Reading, is_final}
 use Rattle.session_record.specs.declared.entry.Entry.{Entry}
 use Rattle.session_record.specs.declared.entry.RecordFault.{RecordFault}
@@ -22,19 +23,6 @@ HeldAlone before after = after ≡ record before { held = after.held }
 -- what is looked for is held in full, or the shelf has nothing left where it told it
 abbrev pub IsEnough : Reading → Option (List ℕ) → Option (List ℕ) → Type 0
 IsEnough r before after = is_ready r ≡ false → IfSome before (λ rest. after ≡ Some [])
-
--- a fault that isn't one of the octets
-abbrev pub IsReadError : RecordFault → Type 0
-IsReadError ReadFault = Unit {0}
-IsReadError Memory = Unit {0}
-IsReadError fault = ⊥
-
--- a fault of an entry
-abbrev pub IsEntryFault : RecordFault → Type 0
-IsEntryFault BadMagic = ⊥
-IsEntryFault ReadFault = ⊥
-IsEntryFault Memory = ⊥
-IsEntryFault fault = Unit {0}
 
 -- the header that was found is taken off
 abbrev pub HeaderFound : Option Header → Result Unit RecordFault → Reading → Reading → Type 0

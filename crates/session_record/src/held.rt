@@ -1,6 +1,7 @@
 //! Octets that were read and not given yet.
-ghost use Rattle.std.specs.Prelude.{◌≡◌, ◌++◌, ◌+◌, ◌<◌, ◌≤◌, [], drop, take, length, IfOk, OnErr, IsSome, IsErrOf};
+ghost use Rattle.std.specs.Prelude.{◌≡◌, ◌++◌, ◌+◌, ◌<◌, ◌≤◌, [], drop, take, length, IfOk, IfErr, IsSome, IsErrOf};
 ghost use Rattle.hk_base.specs.Outside.{Reads};
+ghost use Rattle.session_record.specs.Faults.{IsReadError};
 ghost use Rattle.session_record.specs.Reading.{ahead, KeepsAhead, ReadCounts, IsAtEnd};
 
 use crate::entry::RecordFault;
@@ -79,7 +80,7 @@ impl Held {
         ensures more { IfOk result (λ count. length self.new ≡ length self.old + count) }
         ensures ahead { KeepsAhead (ahead self.old (F.rest shelf.old)) (ahead self.new (F.rest shelf.new)) }
         ensures end { IfOk result (λ count. IsAtEnd count (F.rest shelf.old) (F.rest shelf.new)) }
-        ensures err { OnErr result (self.new ≡ self.old) }
+        ensures err { IfErr result (λ fault. IsReadError fault × (self.new ≡ self.old)) }
         ensures files { F.files shelf.new ≡ F.files shelf.old }
         ensures sound { F.is_sound shelf.old → IsSome (F.rest shelf.old) → IsErrOf result RecordFault.ReadFault → ⊥ }
         ensures stays_sound { F.is_sound shelf.old → F.is_sound shelf.new }
@@ -101,7 +102,7 @@ fn append_piece<F: Shelf>(
     ensures more { IfOk result (λ count. octets.new.items ≡ octets.old.items ++ take count piece.new) }
     ensures within { IfOk result (λ count. count ≤ length piece.new) }
     ensures moved { IfOk result (λ count. Reads (F.rest shelf.old) count piece.new (F.rest shelf.new)) }
-    ensures err { OnErr result ((octets.new.items ≡ octets.old.items) × (F.rest shelf.new ≡ F.rest shelf.old)) }
+    ensures err { IfErr result (λ fault. IsReadError fault × (octets.new.items ≡ octets.old.items) × (F.rest shelf.new ≡ F.rest shelf.old)) }
     ensures files { F.files shelf.new ≡ F.files shelf.old }
     ensures sound { F.is_sound shelf.old → IsSome (F.rest shelf.old) → IsErrOf result RecordFault.ReadFault → ⊥ }
     ensures stays_sound { F.is_sound shelf.old → F.is_sound shelf.new }

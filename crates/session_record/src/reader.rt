@@ -2,8 +2,9 @@
 ghost use Rattle.std.specs.Prelude.{◌≡◌, ◌<◌, false, None, Some, IfOk, IfErr, OnOk, IfSome, IsSome, IsTrue, IsErrOf};
 ghost use Rattle.std.specs.Option.{option_map};
 ghost use Rattle.session_record.specs.Reading.{reading_at_start, Answers, Moves, HasHeader, ReadCounts, is_settled, lasting_fault, ahead, KeepsAhead};
+ghost use Rattle.session_record.specs.Faults.{IsReadError};
 ghost use Rattle.session_record.specs.Records.{next_entry};
-ghost use Rattle.session_record.specs.Steps.{is_ready, HeldAlone, HeaderTaken, EntryTaken, IsEnough, IsReadError};
+ghost use Rattle.session_record.specs.Steps.{is_ready, HeldAlone, HeaderTaken, EntryTaken, IsEnough};
 
 use crate::entry::{Entry, RecordFault};
 use crate::found::{FRONT_OCTETS, find_entry};

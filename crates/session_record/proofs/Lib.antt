@@ -1,3 +1,4 @@
 pub mod HeldLemmas
 pub mod NextLemmas
 pub mod ReadingLemmas
+pub mod WritingLemmas

@@ -4,8 +4,8 @@ use Rattle.std.specs.Prelude.{IsSome, IfSome, MatchResult, is_some, nat_le}
 use Rattle.std.proofs.lemmas.List.{drop-append-le}
 use Rattle.std.proofs.lemmas.Bool.Decides.{nat_tests}
 use Rattle.session_record.specs.Records.{Header, Entries, header_in, entry_size, next_entry, entry_before, entries_from, after_header}
-use Rattle.session_record.specs.Faults.{IsReadError}
-use Rattle.session_record.specs.Reading.{Reading, Answers, IsFirst, KeepsAhead, Moves, ahead, is_final, is_settled, is_settled_at, is_settled_header, no_entries, read_on, to_come}
+use Rattle.session_record.specs.Faults.{IsReadError, lasting}
+use Rattle.session_record.specs.Reading.{Reading, Answers, IsFirst, KeepsAhead, Moves, HasHeader, FaultCounts, ahead, is_final, is_settled, is_settled_at, is_settled_header, lasting_fault, no_entries, read_on, to_come}
 use Rattle.session_record.specs.Steps.{EntryTaken, HeaderTaken, HeaderTakenAt, HeaderFound, HeldAlone, IsEnough, behind, is_ready, is_ready_at}
 use Rattle.session_record.specs.declared.entry.Entry.{Entry}
 use Rattle.session_record.specs.declared.entry.RecordFault.{RecordFault}
@@ -109,8 +109,7 @@ bad-magic s0 s1 s2 (Some was) (Some now) fault fine alone same enough taken =
         ∙ ap (after_header s1.room s1.offset (s1.held ++ now)) none in
     let before : to_come s0 was ≡ Err BadMagic = sym same.0 ∙ comes in
     let P : RecordFault → Type 0 = λ f. IsFirst (Err f) (to_come s0 was) (to_come s2 now) in
-    let Q : Result (Header × Entries) RecordFault → Type 0 = λ b. MatchResult b (λ x. x.1 ≡ no_entries (Some BadMagic)) (λ f. f ≡ BadMagic) in
-    (subst P (sym missing.0) (ap (λ (s : Reading). to_come s now) missing.1 ∙ same.0, subst Q (sym before) refl), refl)
+    (subst P (sym missing.0) (ap (λ (s : Reading). to_come s now) missing.1 ∙ same.0, before), refl)
 
 -- reading failed
 pub read-failed : (s0 s1 : Reading) (r0 r1 : Option (List ℕ)) (fault : RecordFault) → IsReadError fault → SameToCome s0 r0 s1 r1 → Answers (Err fault) s0 r0 s1 r1
@@ -163,9 +162,9 @@ entry_first s3 s4 h now x is fine next at room within after =
 -- a fault of the next entry
 entry_faulty : (s3 s4 : Reading) (h : Header) (now : List ℕ) (fault : RecordFault) → s3.header ≡ Some h → s3.fault ≡ None
     → next_entry s3.room s3.offset (s3.held ++ now) ≡ Err fault → s4 ≡ s3
-    → (to_come s4 now ≡ to_come s3 now) × MatchResult (to_come s3 now) (λ b. b.1 ≡ no_entries (Some fault)) (λ f. f ≡ fault)
+    → (to_come s4 now ≡ to_come s3 now) × MatchResult (to_come s3 now) (λ b. b.1 ≡ no_entries (Some fault)) (λ f. ⊥)
 entry_faulty s3 s4 h now fault is fine next after =
-    let Q : Result (Header × Entries) RecordFault → Type 0 = λ b. MatchResult b (λ x. x.1 ≡ no_entries (Some fault)) (λ f. f ≡ fault) in
+    let Q : Result (Header × Entries) RecordFault → Type 0 = λ b. MatchResult b (λ x. x.1 ≡ no_entries (Some fault)) (λ f. ⊥) in
     (ap (λ (s : Reading). to_come s now) after, subst Q (sym (come-on s3 h now is fine)) (faulty-entry s3.room s3.offset (s3.held ++ now) fault next))
 
 -- no entry was left
@@ -293,3 +292,85 @@ read-moves s0 s1 s2 s3 s4 result alone taken alone' entry =
     let same = kept s0 s1 s2 s3 alone taken alone' in
     let moves = taken-moves s0 s3 s4 (next_entry s3.room s3.offset s3.held) result same.0 same.1 entry in
     (moves.0, moves.1 ∙ same.2)
+
+-- a fault behind the header is all that is still to come
+behind_header : (s : Reading) (now : List ℕ) (fault : RecordFault) → s.fault ≡ Some fault → IsSome s.header
+    → MatchResult (to_come s now) (λ b. b.1 ≡ no_entries (Some fault)) (λ e. ⊥)
+behind_header s now fault is begun =
+    let Q : Option RecordFault → Type 0 = λ f. MatchResult (read_on s.header f s.room s.offset (s.held ++ now)) (λ b. b.1 ≡ no_entries (Some fault)) (λ e. ⊥) in
+    subst Q (sym is) (by_header s.header begun)
+  where
+    by_header : (o : Option Header) → IsSome o → MatchResult (read_on o (Some fault) s.room s.offset (s.held ++ now)) (λ b. b.1 ≡ no_entries (Some fault)) (λ e. ⊥)
+    by_header None begun = absurd (cc begun)
+    by_header (Some h) begun = refl
+
+-- a fault that was kept is answered again
+pub again-answers : (s : Reading) (r : Option (List ℕ)) (fault : RecordFault) → s.fault ≡ Some fault → lasting fault ≡ Some fault → HasHeader (Err fault) s.header
+    → Answers (Err fault) s r s r
+again-answers s None fault is lasts header = tt
+again-answers s (Some now) fault is lasts header = (by_fault fault is lasts header, refl)
+  where
+    by_fault : (f : RecordFault) → s.fault ≡ Some f → lasting f ≡ Some f → HasHeader (Err f) s.header → IsFirst (Err f) (to_come s now) (to_come s now)
+    by_fault ReadFault is lasts header = absurd (cc lasts)
+    by_fault Memory is lasts header = absurd (cc lasts)
+    by_fault BadMagic is lasts header =
+        (refl, ap (λ o. read_on o s.fault s.room s.offset (s.held ++ now)) header ∙ ap (λ e. read_on None e s.room s.offset (s.held ++ now)) is)
+    by_fault (BadKind kind offset) is lasts header = (refl, behind_header s now (BadKind kind offset) is header)
+    by_fault (Cut offset) is lasts header = (refl, behind_header s now (Cut offset) is header)
+    by_fault (TooLong offset) is lasts header = (refl, behind_header s now (TooLong offset) is header)
+    by_fault (TooManyEntries offset) is lasts header = (refl, behind_header s now (TooManyEntries offset) is header)
+
+-- a fault of the octets counts for nothing with the shelf
+pub lasting-counts : (fault : RecordFault) (count : ℕ) → lasting fault ≡ Some fault → FaultCounts fault count count
+lasting-counts ReadFault count lasts = absurd (cc lasts)
+lasting-counts fault count lasts = refl
+
+-- nor is it ReadFault
+pub lasting-apart : (fault : RecordFault) → lasting fault ≡ Some fault → fault ≡ ReadFault → ⊥
+lasting-apart fault lasts is = cc (rw is at lasts)
+
+-- keeping no fault changes nothing
+kept_none : (s1 s2 : Reading) (now : List ℕ) → s2 ≡ record s1 { fault = None } → s1.fault ≡ None → to_come s2 now ≡ to_come s1 now
+kept_none s1 s2 now after fine = ap (λ (s : Reading). to_come s now) after ∙ ap (λ f. read_on s1.header f s1.room s1.offset (s1.held ++ now)) (sym fine)
+
+-- nor does keeping the fault that comes next
+kept_fault : (s1 s2 : Reading) (now : List ℕ) (fault : RecordFault) → s2 ≡ record s1 { fault = Some fault } → s1.fault ≡ None → IsSome s1.header
+    → MatchResult (to_come s1 now) (λ b. b.1 ≡ no_entries (Some fault)) (λ e. ⊥) → to_come s2 now ≡ to_come s1 now
+kept_fault s1 s2 now fault after fine begun next = ap (λ (s : Reading). to_come s now) after ∙ by_header s1.header refl begun
+  where
+    by_header : (o : Option Header) → s1.header ≡ o → IsSome o → read_on s1.header (Some fault) s1.room s1.offset (s1.held ++ now) ≡ to_come s1 now
+    by_header None is begun = absurd (cc begun)
+    by_header (Some h) is begun =
+        let comes = come-on s1 h now is fine in
+        let Q : Result (Header × Entries) RecordFault → Type 0 = λ b. MatchResult b (λ x. x.1 ≡ no_entries (Some fault)) (λ e. ⊥) in
+        let entries : entries_from s1.room s1.offset (s1.held ++ now) ≡ no_entries (Some fault) = subst Q comes next in
+        ap (λ o. read_on o (Some fault) s1.room s1.offset (s1.held ++ now)) is ∙ sym (comes ∙ ap (λ es. Ok (h, es)) entries)
+
+-- the answer stays right once its fault is kept
+pub faulted-answers : (s0 s1 s2 : Reading) (r0 r1 : Option (List ℕ)) (result : Result (Option (ℕ × Entry)) RecordFault) → s2 ≡ record s1 { fault = lasting_fault result } → s1.fault ≡ None
+    → HasHeader result s1.header → Answers result s0 r0 s1 r1 → Answers result s0 r0 s2 r1
+faulted-answers s0 s1 s2 None r1 result after fine header answers = tt
+faulted-answers s0 s1 s2 (Some was) None result after fine header answers = absurd (cc answers.1)
+faulted-answers s0 s1 s2 (Some was) (Some now) result after fine header answers = (by_result result after header answers.0, refl)
+  where
+    behind_it : (f : RecordFault) → s2 ≡ record s1 { fault = Some f } → IsSome s1.header
+        → (to_come s1 now ≡ to_come s0 was) × MatchResult (to_come s0 was) (λ b. b.1 ≡ no_entries (Some f)) (λ e. ⊥)
+        → (to_come s2 now ≡ to_come s0 was) × MatchResult (to_come s0 was) (λ b. b.1 ≡ no_entries (Some f)) (λ e. ⊥)
+    behind_it f after begun first =
+        let Q : Result (Header × Entries) RecordFault → Type 0 = λ b. MatchResult b (λ x. x.1 ≡ no_entries (Some f)) (λ e. ⊥) in
+        (kept_fault s1 s2 now f after fine begun (subst Q (sym first.0) first.1) ∙ first.0, first.1)
+
+    by_result : (r : Result (Option (ℕ × Entry)) RecordFault) → s2 ≡ record s1 { fault = lasting_fault r } → HasHeader r s1.header
+        → IsFirst r (to_come s0 was) (to_come s1 now) → IsFirst r (to_come s0 was) (to_come s2 now)
+    by_result (Ok None) after header first = (kept_none s1 s2 now after fine ∙ first.0, first.1)
+    by_result (Ok (Some x)) after header first =
+        let P : Result (Header × Entries) RecordFault → Type 0 = λ a. IsFirst (Ok (Some x)) (to_come s0 was) a in
+        subst P (sym (kept_none s1 s2 now after fine)) first
+    by_result (Err ReadFault) after header first = kept_none s1 s2 now after fine ∙ first
+    by_result (Err Memory) after header first = kept_none s1 s2 now after fine ∙ first
+    by_result (Err BadMagic) after header first =
+        (ap (λ (s : Reading). to_come s now) after ∙ ap (λ o. read_on o (Some BadMagic) s1.room s1.offset (s1.held ++ now)) header ∙ sym first.1, first.1)
+    by_result (Err (BadKind kind offset)) after header first = behind_it (BadKind kind offset) after header first
+    by_result (Err (Cut offset)) after header first = behind_it (Cut offset) after header first
+    by_result (Err (TooLong offset)) after header first = behind_it (TooLong offset) after header first
+    by_result (Err (TooManyEntries offset)) after header first = behind_it (TooManyEntries offset) after header first

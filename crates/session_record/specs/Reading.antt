@@ -42,7 +42,8 @@ IsFirst (Ok (Some x)) before after = MatchResult after (λ left. before ≡ Ok (
 IsFirst (Ok None) before after = (after ≡ before) × MatchResult before (λ b. b.1 ≡ no_entries None) (λ f. ⊥)
 IsFirst (Err ReadFault) before after = after ≡ before
 IsFirst (Err Memory) before after = after ≡ before
-IsFirst (Err fault) before after = (after ≡ before) × MatchResult before (λ b. b.1 ≡ no_entries (Some fault)) (λ f. f ≡ fault)
+IsFirst (Err BadMagic) before after = (after ≡ before) × (before ≡ Err BadMagic)
+IsFirst (Err fault) before after = (after ≡ before) × MatchResult before (λ b. b.1 ≡ no_entries (Some fault)) (λ f. ⊥)
 
 -- where the shelf told what it had left: it still does, and the answer is the first of what was to come
 abbrev pub Answers : Result (Option (ℕ × Entry)) RecordFault → Reading → Option (List ℕ) → Reading → Option (List ℕ) → Type 0
@@ -69,10 +70,6 @@ is_settled_at (Some h) None room offset octets = is_final (next_entry room offse
 abbrev pub is_settled : Reading → Bool
 is_settled r = is_settled_at r.header r.fault r.room r.offset r.held
 
--- what a reader keeps is a fault of the octets
-abbrev pub Lasts : Option RecordFault → Type 0
-Lasts fault = ForSome fault (λ f. lasting f ≡ Some f)
-
 -- the fault that is answered from then on, if it is one
 abbrev pub lasting_fault : Result (Option (ℕ × Entry)) RecordFault → Option RecordFault
 lasting_fault (Ok x) = None
@@ -90,6 +87,10 @@ HasHeader (Err BadMagic) header = header ≡ None
 HasHeader (Err ReadFault) header = ⊤
 HasHeader (Err Memory) header = ⊤
 HasHeader result header = IsSome header
+
+-- what a reader keeps is a fault of the octets, in place of a header or behind it
+abbrev pub Lasts : Option Header → Option RecordFault → Type 0
+Lasts header fault = ForSome fault (λ f. (lasting f ≡ Some f) × HasHeader (Err f) header)
 
 -- the count of the shelf rises with ReadFault alone
 abbrev pub FaultCounts : RecordFault → ℕ → ℕ → Type 0

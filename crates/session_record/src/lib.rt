@@ -6,6 +6,8 @@ mod found;
 mod header;
 mod held;
 mod reader;
+mod writer;
 
 pub use entry::{Entry, RecordFault, WriteFault};
 pub use reader::RecordReader;
+pub use writer::RecordWriter;

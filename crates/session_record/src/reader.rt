@@ -38,7 +38,7 @@ impl Model for RecordReader {
 
     ghost view = { λ r. record { header = r.header; offset = r.offset; room = r.room; held = r.held; fault = r.fault } };
 
-    ghost invariant = { λ r. (r.offset ≤ most_octets) × Lasts r.fault };
+    ghost invariant = { λ r. (r.offset ≤ most_octets) × Lasts r.header r.fault };
 }
 
 impl RecordReader {
@@ -165,6 +165,7 @@ impl RecordReader {
 
     /// Takes the header off what is held, unless it was taken before.
     fn take_header(&mut self) -> Result<(), RecordFault>
+        requires { self.old.fault ≡ None }
         ensures { HeaderTaken result self.old self.new }
     {
         if self.header.is_some() {

@@ -2,3 +2,4 @@ pub mod HeldLemmas
 pub mod NextLemmas
 pub mod ReadingLemmas
 pub mod WritingLemmas
+pub mod RecordLemmas

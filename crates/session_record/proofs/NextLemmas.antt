@@ -63,7 +63,7 @@ after-more offset kind rest more (Some make) final =
   where
     by_length : nat_lt (length rest) 4 ≡ false → number_of (take 4 (rest ++ more)) ≡ number_of (take 4 rest)
         → (nat_lt most_octets (offset + 5 + number_of (take 4 rest)) ≡ true)
-          ⊎ ((nat_lt most_octets (offset + 5 + number_of (take 4 rest)) ≡ false) × (nat_lt (length rest) (4 + number_of (take 4 rest)) ≡ false))
+        ⊎ ((nat_lt most_octets (offset + 5 + number_of (take 4 rest)) ≡ false) × (nat_lt (length rest) (4 + number_of (take 4 rest)) ≡ false))
         → entry_after_kind offset kind (rest ++ more) (Some make) ≡ entry_after_kind offset kind rest (Some make)
     by_length long same (inl past) =
         chosen-long _ _ _ offset _ (not-shorter rest more 4 long) (ap (λ size. nat_lt most_octets (offset + 5 + size)) same ∙ past)
@@ -72,7 +72,7 @@ after-more offset kind rest more (Some make) final =
         chosen-whole _ _ _ offset _ (not-shorter rest more 4 long) (ap (λ size. nat_lt most_octets (offset + 5 + size)) same ∙ within)
         (ap (λ size. nat_lt (length (rest ++ more)) (4 + size)) same ∙ not-shorter rest more (4 + number_of (take 4 rest)) whole)
         ∙ ap (λ held. Ok (Some (make held)))
-          (ap (λ size. take size (drop 4 (rest ++ more))) same ∙ same-held rest more (number_of (take 4 rest)) (long-enough rest (4 + number_of (take 4 rest)) whole))
+        (ap (λ size. take size (drop 4 (rest ++ more))) same ∙ same-held rest more (number_of (take 4 rest)) (long-enough rest (4 + number_of (take 4 rest)) whole))
         ∙ sym (chosen-whole _ _ _ offset _ long within whole)
 
 -- what comes next is there in full

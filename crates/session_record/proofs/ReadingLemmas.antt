@@ -23,9 +23,11 @@ some_same xs ys e = cc
 pub gathered : (s0 s1 : Reading) (r0 r1 : Option (List ℕ)) → HeldAlone s0 s1 → KeepsAhead (ahead s0.held r0) (ahead s1.held r1) → SameToCome s0 r0 s1 r1
 gathered s0 s1 None r1 alone keeps = tt
 gathered s0 s1 (Some was) None alone keeps = absurd (cc keeps)
-gathered s0 s1 (Some was) (Some now) alone keeps =
-    (ap (λ (s : Reading). read_on s.header s.fault s.room s.offset (s1.held ++ now)) alone
-    ∙ ap (read_on s0.header s0.fault s0.room s0.offset) (some_same (s1.held ++ now) (s0.held ++ was) keeps), refl)
+gathered s0 s1 (Some was) (Some now) alone keeps = (
+  ap (λ (s : Reading). read_on s.header s.fault s.room s.offset (s1.held ++ now)) alone
+      ∙ ap (read_on s0.header s0.fault s0.room s0.offset) (some_same (s1.held ++ now) (s0.held ++ was) keeps),
+  refl,
+)
 
 -- one step after another
 same-then : (s0 s1 s2 : Reading) (r0 r1 r2 : Option (List ℕ)) → SameToCome s0 r0 s1 r1 → SameToCome s1 r1 s2 r2 → SameToCome s0 r0 s2 r2
@@ -104,9 +106,9 @@ bad-magic s0 s1 s2 (Some was) (Some now) fault fine alone same enough taken =
     let none = no_header s1.held now (nat_le 8 (length s1.held)) refl missing.3 (λ short. enough (unready short)) in
     let clean : s1.fault ≡ None = ap (λ (s : Reading). s.fault) alone ∙ fine in
     let comes : to_come s1 now ≡ Err BadMagic =
-        ap (λ o. read_on o s1.fault s1.room s1.offset (s1.held ++ now)) missing.2
-        ∙ ap (λ f. read_on None f s1.room s1.offset (s1.held ++ now)) clean
-        ∙ ap (after_header s1.room s1.offset (s1.held ++ now)) none in
+    ap (λ o. read_on o s1.fault s1.room s1.offset (s1.held ++ now)) missing.2
+    ∙ ap (λ f. read_on None f s1.room s1.offset (s1.held ++ now)) clean
+    ∙ ap (after_header s1.room s1.offset (s1.held ++ now)) none in
     let before : to_come s0 was ≡ Err BadMagic = sym same.0 ∙ comes in
     let P : RecordFault → Type 0 = λ f. IsFirst (Err f) (to_come s0 was) (to_come s2 now) in
     (subst P (sym missing.0) (ap (λ (s : Reading). to_come s now) missing.1 ∙ same.0, before), refl)
@@ -149,13 +151,13 @@ entry_first : (s3 s4 : Reading) (h : Header) (now : List ℕ) (x : ℕ × Entry)
 entry_first s3 s4 h now x is fine next at room within after =
     let size = entry_size x.1 in
     let later : to_come s4 now ≡ Ok (h, entries_from (s3.room - 1) (s3.offset + size) (drop size s3.held ++ now)) =
-        ap (λ (s : Reading). to_come s now) after ∙ come-on (behind s3 size) h now is fine in
+    ap (λ (s : Reading). to_come s now) after ∙ come-on (behind s3 size) h now is fine in
     let octets : drop size (s3.held ++ now) ≡ drop size s3.held ++ now = drop-append-le size s3.held now within in
     let before : to_come s3 now ≡ Ok (h, entry_before x.0 x.1 (entries_from (s3.room - 1) (s3.offset + size) (drop size s3.held ++ now))) =
-        come-on s3 h now is fine
-        ∙ ap (λ es. Ok (h, es)) (first-entry s3.room s3.offset (s3.held ++ now) x.1 room next
-        ∙ ap (λ left. entry_before s3.offset x.1 (entries_from (s3.room - 1) (s3.offset + size) left)) octets
-        ∙ ap (λ offset. entry_before offset x.1 (entries_from (s3.room - 1) (s3.offset + size) (drop size s3.held ++ now))) (sym at)) in
+    come-on s3 h now is fine
+    ∙ ap (λ es. Ok (h, es)) (first-entry s3.room s3.offset (s3.held ++ now) x.1 room next
+    ∙ ap (λ left. entry_before s3.offset x.1 (entries_from (s3.room - 1) (s3.offset + size) left)) octets
+    ∙ ap (λ offset. entry_before offset x.1 (entries_from (s3.room - 1) (s3.offset + size) (drop size s3.held ++ now))) (sym at)) in
     let P : Result (Header × Entries) RecordFault → Type 0 = λ a. IsFirst (Ok (Some x)) (to_come s3 now) a in
     subst P (sym later) before
 
@@ -261,11 +263,12 @@ taken-moves s0 s3 s4 next (Err fault) offset room taken =
 kept : (s0 s1 s2 s3 : Reading) → HeldAlone s0 s1 → HeaderTaken (Ok tt) s1 s2 → HeldAlone s2 s3
     → (s3.offset ≡ s0.offset) × (s3.room ≡ s0.room) × (s3.fault ≡ s0.fault) × IsSome s3.header
 kept s0 s1 s2 s3 one taken two =
-    let header = header-kept s1 s2 taken in
-    (ap (λ (s : Reading). s.offset) two ∙ header.0 ∙ ap (λ (s : Reading). s.offset) one,
-    ap (λ (s : Reading). s.room) two ∙ header.1 ∙ ap (λ (s : Reading). s.room) one,
-    ap (λ (s : Reading). s.fault) two ∙ header.2 ∙ ap (λ (s : Reading). s.fault) one,
-    ap (λ (s : Reading). is_some s.header) two ∙ header.3)
+    let header = header-kept s1 s2 taken in (
+      ap (λ (s : Reading). s.offset) two ∙ header.0 ∙ ap (λ (s : Reading). s.offset) one,
+      ap (λ (s : Reading). s.room) two ∙ header.1 ∙ ap (λ (s : Reading). s.room) one,
+      ap (λ (s : Reading). s.fault) two ∙ header.2 ∙ ap (λ (s : Reading). s.fault) one,
+      ap (λ (s : Reading). is_some s.header) two ∙ header.3,
+    )
 
 -- all steps up to the entry
 pub prepared : (s0 s1 s2 s3 : Reading) (r0 r1 r2 : Option (List ℕ)) → s0.fault ≡ None

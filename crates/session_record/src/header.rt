@@ -13,8 +13,11 @@ pub struct Header {
 pub(crate) const HEADER_OCTETS: usize = 8;
 
 const KNOWN: [u8; HEADER_OCTETS] = *b"HKREC1K\n";
+
 const UNKNOWN: [u8; HEADER_OCTETS] = *b"HKREC1U\n";
+
 const KNOWN_LONG: [u8; HEADER_OCTETS] = *b"HKREC2K\n";
+
 const UNKNOWN_LONG: [u8; HEADER_OCTETS] = *b"HKREC2U\n";
 
 impl Header {

@@ -5,9 +5,14 @@ mod entry;
 mod found;
 mod header;
 mod held;
+mod laws;
 mod reader;
 mod writer;
 
 pub use entry::{Entry, RecordFault, WriteFault};
+pub use laws::records_are_read_back;
 pub use reader::RecordReader;
 pub use writer::RecordWriter;
+
+#[cfg(test)]
+mod tests;

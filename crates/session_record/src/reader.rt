@@ -76,10 +76,7 @@ impl RecordReader {
     ///
     /// A fault of the octets is answered from then on. After `ReadFault` or `Memory` the reader keeps what it has read,
     /// and answers what would have come when it is asked again.
-    pub fn next<F: Shelf>(
-        &mut self,
-        shelf: &mut F,
-    ) -> Result<Option<(u64, Entry)>, RecordFault>
+    pub fn next<F: Shelf>(&mut self, shelf: &mut F) -> Result<Option<(u64, Entry)>, RecordFault>
         // The entries, their offsets, the end and the faults are those of the octets, in whatever pieces they come.
         ensures answer { Answers result self.old (F.rest shelf.old) self.new (F.rest shelf.new) }
         ensures header { HasHeader result self.new.header }
@@ -105,10 +102,7 @@ impl RecordReader {
     }
 
     /// The header, if it wasn't read before, and the next entry.
-    fn read_next<F: Shelf>(
-        &mut self,
-        shelf: &mut F,
-    ) -> Result<Option<(u64, Entry)>, RecordFault>
+    fn read_next<F: Shelf>(&mut self, shelf: &mut F) -> Result<Option<(u64, Entry)>, RecordFault>
         requires { self.old.fault ≡ None }
         ensures answer { Answers result self.old (F.rest shelf.old) self.new (F.rest shelf.new) }
         ensures header { HasHeader result self.new.header }

@@ -1,0 +1,5 @@
+pub mod HeldLemmas
+pub mod NextLemmas
+pub mod ReadingLemmas
+pub mod WritingLemmas
+pub mod RecordLemmas

@@ -1,0 +1,29 @@
+use Rattle.std.proofs.Common.{◌≡◌, ◌∙◌, None, Some, Err, ap, sym, subst}
+use Rattle.session_record.specs.Reading.{Reading, HasHeader, lasting_fault}
+use Rattle.session_record.specs.declared.entry.RecordFault.{RecordFault}
+use Rattle.session_record.proofs.ReadingLemmas.{again-answers, faulted-answers, lasting-counts, lasting-apart}
+use Rattle.session_record.proofs.reader.RecordReader.next.Goals as goal
+
+pub returns-in-Some-clause-answer : goal.returns-in-Some-clause-answer
+returns-in-Some-clause-answer g c =
+    let kept = c.self.invariant.1 c.in-Some.fault c.in-Some.is in
+    let P : Reading → Type 0 = λ s. HasHeader (Err c.in-Some.fault) s.header in
+    again-answers c.args.self.now (g.F.Shelf.rest c.args.shelf.now) c.in-Some.fault (ap (λ (s : Reading). s.fault) (sym c.self.view_is) ∙ c.in-Some.is) kept.0
+    (subst P c.self.view_is kept.1)
+
+pub returns-in-Some-clause-unsettled : goal.returns-in-Some-clause-unsettled
+returns-in-Some-clause-unsettled g c = λ is. absurd (lasting-apart c.in-Some.fault (c.self.invariant.1 c.in-Some.fault c.in-Some.is).0 (cc is))
+
+pub returns-in-Some-clause-count : goal.returns-in-Some-clause-count
+returns-in-Some-clause-count g c = lasting-counts c.in-Some.fault (g.F.Shelf.faults c.args.shelf.now) (c.self.invariant.1 c.in-Some.fault c.in-Some.is).0
+
+pub returns-in-Some-clause-sound : goal.returns-in-Some-clause-sound
+returns-in-Some-clause-sound g c = λ _ _ is. lasting-apart c.in-Some.fault (c.self.invariant.1 c.in-Some.fault c.in-Some.is).0 (cc is)
+
+pub returns-clause-answer : goal.returns-clause-answer
+returns-clause-answer g c =
+    let result = c.read_next-answer.result in
+    let after = ap (λ (s : Reading). record s { fault = c.lasting_fault-self-inside.result }) c.self-2.view_is
+    ∙ ap (λ f. record c.read_next-answer.new.self { fault = f }) c.lasting_fault-self-inside.ensures in
+    faulted-answers c.args.self.now c.read_next-answer.new.self _ (g.F.Shelf.rest c.args.shelf.now) (g.F.Shelf.rest c.read_next-answer.new.shelf) result after
+    c.read_next-answer.ensures.fault c.read_next-answer.ensures.header c.read_next-answer.ensures.answer

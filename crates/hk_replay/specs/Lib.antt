@@ -4,3 +4,4 @@ pub mod Transcripts
 pub mod Words
 pub mod Transfer
 pub mod Replay
+pub mod Truth

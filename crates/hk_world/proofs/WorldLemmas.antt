@@ -1,5 +1,5 @@
 -- What holds of each moment and of each delivery of a world.
-use Rattle.std.proofs.Common.{◌≡◌, ◌≢◌, ◌<◌, ℕ, zero, suc, List, [], ◌∷◌, ◌++◌, Some, ap, subst, sym, refl}
+use Rattle.std.proofs.Common.{◌≡◌, ◌≢◌, ◌<◌, ◌≤◌, ℕ, zero, suc, List, [], ◌∷◌, ◌++◌, Some, ap, subst, sym, refl}
 use Rattle.std.specs.Prelude.{slice_get}
 use Rattle.std.specs.List.{AllByRecursion}
 use Rattle.std.proofs.lemmas.Option.{same_Some, none-some}
@@ -44,19 +44,31 @@ carried_report s earlier m (Filed param slot value) c some = absurd (some c)
 -- one moment more
 delivered_later : (s : Session) (moments : List Moment) (next m : Moment) → IsDelivered s moments m → IsDelivered s (next ∷ moments) m
 delivered_later s moments next m d =
-    record { number = suc d.number; sent = d.sent; later = next ∷ d.later; earlier = d.earlier; before = ap (λ xs. next ∷ xs) d.before; report = d.report }
+    record { number = suc d.number; made = d.made; low = d.low; later = next ∷ d.later; earlier = d.earlier; before = ap (λ xs. next ∷ xs) d.before; report = d.report }
 
 all_later : (s : Session) (moments : List Moment) (next : Moment) (delivered : List Moment) → AllByRecursion (IsDelivered s moments) delivered → AllByRecursion (IsDelivered s (next ∷ moments)) delivered
 all_later s moments next [] all = tt
 all_later s moments next (m ∷ delivered) all = (delivered_later s moments next m all.0, all_later s moments next delivered all.1)
 
-honest : (s : Session) (earlier : List Moment) (m : Moment) → MayHappen s earlier m → Carries s earlier m m.act
-honest s earlier m h = h.packet
+-- a moment is honest, and its tag is 1 or more
+abbrev IsSent : Session → List Moment → Moment → Type 0
+IsSent s earlier m = Carries s earlier m m.act × (1 ≤ m.tag)
+
+sent : (s : Session) (earlier : List Moment) (m : Moment) → MayHappen s earlier m → IsSent s earlier m
+sent s earlier m h = (h.packet, h.tag.low)
 
 arrived : (s : Session) (earlier : List Step) (m : Moment) → EachAfter (MayStep s) earlier → MayArrive (moments_of earlier) (deliveries_of earlier) m → IsDelivered s (moments_of earlier) m
 arrived s earlier m steps h =
-    let at = moment_at (λ before x. Carries s before x x.act) (moments_of earlier) m h.number (each_moment s (λ before x. Carries s before x x.act) (honest s) earlier steps) h.sent in
-    record { number = h.number; sent = h.sent; later = at.later; earlier = at.earlier; before = at.before; report = carried_report s at.earlier m m.act at.is h.some }
+    let at = moment_at (IsSent s) (moments_of earlier) m h.number (each_moment s (IsSent s) (sent s) earlier steps) h.made in
+    record {
+      number = h.number;
+      made = h.made;
+      low = at.is.1;
+      later = at.later;
+      earlier = at.earlier;
+      before = at.before;
+      report = carried_report s at.earlier m m.act at.is.0 h.some;
+    }
 
 each_delivered : (s : Session) (steps : List Step) → EachAfter (MayStep s) steps → AllByRecursion (IsDelivered s (moments_of steps)) (deliveries_of steps)
 each_delivered s [] h = tt

@@ -1,5 +1,5 @@
 -- Worlds: what the board does and what is delivered, in any order. A packet that is never delivered is lost. Steps stand with the newest first.
-use Rattle.std.specs.Prelude.{◌≡◌, ◌≢◌, ℕ, ◌-◌, ◌<◌, ⊤, List, [], ◌∷◌, ◌++◌, slice_get, ℤ, Bool, Some, IfSome, IsTrue}
+use Rattle.std.specs.Prelude.{◌≡◌, ◌≢◌, ℕ, ◌-◌, ◌<◌, ◌≤◌, ⊤, List, [], ◌∷◌, ◌++◌, slice_get, ℤ, Bool, Some, IfSome, IsTrue}
 use Rattle.std.specs.List.{AllByRecursion}
 use Rattle.hk_base.specs.Fit.{IsFit, slot_of}
 use Rattle.hk_base.specs.Payload.{IsValid, places}
@@ -16,8 +16,9 @@ pub data Step : Type 0 where
   happen : Moment → Step
   deliver : Moment → Step
 
--- what the ground sees of a step
+-- what the ground sees of a step: a request packet that it sent, or a packet that it received
 pub data Entry : Type 0 where
+  sent : List ℕ → Entry
   got : List ℕ → Entry
 
 -- a session, and the steps so far, the newest first
@@ -53,7 +54,7 @@ pub record MayHappen (s : Session) (earlier : List Moment) (m : Moment) : Type 0
 -- a packet of an earlier moment, with a tag above those that were delivered before
 pub record MayArrive (moments delivered : List Moment) (m : Moment) : Type 0 where
   pub number : ℕ
-  pub sent : slice_get moments number ≡ Some m
+  pub made : slice_get moments number ≡ Some m
   pub some : m.packet ≢ []
   pub later : AllByRecursion (λ d. d.tag < m.tag) delivered
 
@@ -94,7 +95,8 @@ pub record IsTrueValue (w : World) (id tag interval row : ℕ) (param slot : ℕ
 -- A report that was delivered: the board made it from moments before it, which are among those of the timeline.
 pub record IsDelivered (s : Session) (moments : List Moment) (m : Moment) : Type 0 where
   pub number : ℕ
-  pub sent : slice_get moments number ≡ Some m
+  pub made : slice_get moments number ≡ Some m
+  pub low : 1 ≤ m.tag
   pub later : List Moment
   pub earlier : List Moment
   pub before : moments ≡ later ++ earlier

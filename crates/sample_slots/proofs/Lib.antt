@@ -5,3 +5,4 @@ pub mod ReadingLemmas
 pub mod CountLemmas
 pub mod PayloadLaws
 pub mod SpellingLaws
+pub mod WindowLemmas

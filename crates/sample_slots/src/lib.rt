@@ -5,11 +5,13 @@ mod bits;
 mod laws;
 mod payload;
 mod slots;
+mod window;
 
 pub use hk_base::{PayloadFault, Place};
 pub use laws::payloads;
 pub use payload::{read_payload, size};
 pub use slots::{place, place_count};
+pub use window::Window;
 
 #[cfg(test)]
 mod tests;

@@ -1,3 +1,5 @@
 mod Polynomials
 mod Registers
 mod Table
+mod Lengths
+mod Parts

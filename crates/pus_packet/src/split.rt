@@ -59,7 +59,6 @@ pub fn split_tm<'a>(
 
 /// The application process of octets that have a primary header; None where they have fewer than its 6 octets.
 pub fn apid_of(bytes: &[u8]) -> Option<u16>
-    requires size { length bytes.now ≤ 2 ^ 31 }
     ensures { result ≡ process_of bytes.now }
 {
     if bytes.len() < 6 {
@@ -126,7 +125,7 @@ fn header_fault(bytes: &[u8], wanted: u8, least: usize) -> Option<PacketFault>
 
 /// The fault of the checksum in the last two octets.
 fn checksum_fault(bytes: &[u8]) -> Option<PacketFault>
-    requires size { (2 ≤ length bytes.now) × (length bytes.now ≤ 2 ^ 31) }
+    requires { 2 ≤ length bytes.now }
     ensures { result ≡ packets.checksum_fault true bytes.now }
 {
     let field = word(bytes, bytes.len() - 2);
@@ -147,7 +146,7 @@ fn checked_part(bytes: &[u8], checksum: bool) -> &[u8]
 }
 
 /// How many octets a checksum has, where it is on.
-fn checksum_octets(on: bool) -> usize
+pub(crate) fn checksum_octets(on: bool) -> usize
     ensures { result ≡ packets.checksum_octets on }
 {
     if on { 2 } else { 0 }

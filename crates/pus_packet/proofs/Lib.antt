@@ -3,3 +3,7 @@ mod Registers
 mod Table
 mod Lengths
 mod Parts
+mod Checksums
+mod Fronts
+mod JoiningLemmas
+mod SplittingLemmas

@@ -74,7 +74,7 @@ divided register octet n bits fits small are =
     ∙ (remainder-add 8 n (digits 2 8 index ++ sum_onto (digits 2 16 moved) bits)
     ∙ ap (remainder n) (remainder-sum 8 (digits 2 8 index) (digits 2 16 moved) bits refl (lit≤ tt) refl ∙ ap (λ xs. sum_onto xs bits) apart))
 
-bits-zeros : (n : ℕ) → AllBelowBase 2 (replicate n 0)
+pub bits-zeros : (n : ℕ) → AllBelowBase 2 (replicate n 0)
 bits-zeros zero = tt
 bits-zeros (suc n) = (lit< tt, bits-zeros n)
 

@@ -3,7 +3,7 @@ use Rattle.std.specs.Prelude.{◌≡◌, ℕ, ◌+◌, ◌^◌, ◌<◌, ◌≤�
 use Rattle.hk_base.specs.TailoringParts.{TailoringParts}
 use Rattle.hk_base.specs.Fields.{octets_of, number_of}
 use Rattle.hk_base.specs.declared.types.RequestId.{RequestId}
-use Rattle.pus_packet.specs.Packets.{crc, checksum_octets, time_octets}
+use Rattle.pus_packet.specs.Packets.{crc, checksum_octets, time_octets, split_command, split_report}
 use Rattle.pus_packet.specs.declared.header.TcHeader.{TcHeader}
 use Rattle.pus_packet.specs.declared.header.TmHeader.{TmHeader}
 use Rattle.pus_packet.specs.declared.header.JoinFault.{JoinFault}
@@ -52,8 +52,8 @@ pub record IsCommand (h : TcHeader) : Type 0 where
   pub subtype : h.subtype < 2 ^ 8
   pub source : h.source < 2 ^ 16
 
--- headers of a report that fit their fields
-pub record IsReport (t : TailoringParts) (h : TmHeader) : Type 0 where
+-- headers of a report that fit their fields, with a time of so many octets
+pub record IsReport (time : ℕ) (h : TmHeader) : Type 0 where
   pub apid : h.apid < 2 ^ 11
   pub count : h.count < 2 ^ 14
   pub status : h.status < 2 ^ 4
@@ -61,7 +61,7 @@ pub record IsReport (t : TailoringParts) (h : TmHeader) : Type 0 where
   pub subtype : h.subtype < 2 ^ 8
   pub counter : h.counter < 2 ^ 16
   pub destination : h.destination < 2 ^ 16
-  pub tag : h.tag < 256 ^ time_octets t
+  pub tag : h.tag < 256 ^ time
 
 -- What joining answers where a packet would have these octets: them, or that they are too many; there may be no memory for them.
 abbrev pub Joins : List ℕ → Result (List ℕ) JoinFault → Type 0
@@ -77,14 +77,22 @@ id_of_packet octets = record { word = number_of (take 4 octets) }
 abbrev pub AreOctets : List ℕ → Type 0
 AreOctets octets = (place : ℕ) → slice_index octets place < 2 ^ 8
 
+-- octets are split into these headers of a request and this body
+abbrev pub SplitsToCommand : TailoringParts → List ℕ → TcHeader → List ℕ → Type 0
+SplitsToCommand t octets h body = split_command t octets ≡ Ok (h, body)
+
+-- octets are split into these headers of a report and this body
+abbrev pub SplitsToReport : TailoringParts → List ℕ → TmHeader → List ℕ → Type 0
+SplitsToReport t octets h body = split_report t octets ≡ Ok (h, body)
+
 -- a request packet that these headers and this body make
-pub record IsCommandPacket (t : TailoringParts) (h : TcHeader) (body octets : List ℕ) : Type 0 where
+pub record IsCommandPacket (checksum : Bool) (h : TcHeader) (body octets : List ℕ) : Type 0 where
   pub headers : IsCommand h
-  pub spelling : octets ≡ command_octets t h body
+  pub spelling : octets ≡ command_packet checksum h body
   pub size : length octets ≤ most_octets
 
--- a report packet that these headers and this body make
-pub record IsReportPacket (t : TailoringParts) (h : TmHeader) (body octets : List ℕ) : Type 0 where
-  pub headers : IsReport t h
-  pub spelling : octets ≡ report_octets t h body
+-- a report packet that these headers and this body make, with a time of so many octets
+pub record IsReportPacket (checksum : Bool) (time : ℕ) (h : TmHeader) (body octets : List ℕ) : Type 0 where
+  pub headers : IsReport time h
+  pub spelling : octets ≡ report_packet checksum time h body
   pub size : length octets ≤ most_octets

@@ -42,7 +42,7 @@ pub fn join_tm(
     body: &[u8],
 ) -> Result<Octets, JoinFault>
     requires size { length body.now ≤ 2 ^ 31 }
-    requires fits { IsReport tailoring.now header.now }
+    requires fits { IsReport (packets.time_octets tailoring.now) header.now }
     ensures { Joins (report_octets tailoring.now header.now body.now) result }
 {
     let widths = tailoring.widths();
@@ -85,8 +85,8 @@ fn report(
     body: &[u8],
     size: usize,
 ) -> Result<Octets, Memory>
-    requires fits { (header.now.apid < 2 ^ 11) × (header.now.count < 2 ^ 14) × (header.now.status < 2 ^ 4) }
-    requires tag { (1 ≤ time) × (time ≤ 7) × (header.now.tag < 256 ^ time) }
+    requires fits { IsReport time header.now }
+    requires time { (1 ≤ time) × (time ≤ 7) }
     requires size { (size ≡ 13 + time + length body.now + packets.checksum_octets checksum) × (size ≤ 65542) }
     ensures { IfOk result (λ octets. octets ≡ report_packet checksum time header.now body.now) }
 {

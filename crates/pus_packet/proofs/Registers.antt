@@ -30,7 +30,7 @@ pub left-end : (register : ℕ) → register < 2 ^ 16 → left_by register [] �
 unfolding left_by
 left-end register fits = ap (number 2) (sum-nothing register) ∙ (number-digits 2 16 register (omega arith) ∙ mod-eq_of_lt fits)
 
-both : {x y : ℕ} {xs ys : List ℕ} → x ≡ y → xs ≡ ys → x ∷ xs ≡ y ∷ ys
+pub both : {x y : ℕ} {xs ys : List ℕ} → x ≡ y → xs ≡ ys → x ∷ xs ≡ y ∷ ys
 both p q = rw (p, q) refl
 
 -- the high half of a register

@@ -17,6 +17,7 @@ use Rattle.pus_packet.specs.declared.header.TcHeader.{TcHeader}
 use Rattle.pus_packet.specs.declared.header.TmHeader.{TmHeader}
 use Rattle.pus_packet.specs.declared.header.PacketFault.{PacketFault}
 use Rattle.pus_packet.specs.declared.header.PacketFault.TheVariants.{Short, Length, Version, Direction, NoSecondary, Segmented, PusVersion, Checksum}
+use Rattle.pus_packet.proofs.Registers.{both}
 use Rattle.pus_packet.proofs.Fronts.{front, wanted, start}
 use Rattle.pus_packet.proofs.JoiningLemmas.{command, command_by, command_parts, report, report_by, report_parts, headers_by}
 
@@ -63,9 +64,6 @@ stands request least octets none =
       whole = equals (sequence_flags octets) 3 (Segmented (sequence_flags octets)) f.0;
       pus = equals (pus_version octets) 2 (PusVersion (pus_version octets)) g.0;
     }
-
-both : {x y : ℕ} {xs ys : List ℕ} → x ≡ y → xs ≡ ys → x ∷ xs ≡ y ∷ ys
-both p q = rw (p, q) refl
 
 high-octet : (n a b : ℕ) → n ≡ a * 256 + (b * 1 + 0) → a < 256 → b < 256 → a ≡ n / 256 % 256
 high-octet n a b e p q = omega (arith, e, p, q)

@@ -13,6 +13,15 @@ use std::alloc::Global;
 /// The most octets that a packet can have: its data length field has 16 bits and counts from 1 after the primary header.
 const MOST_OCTETS: usize = 65_542;
 
+/// The first two octets of a request with a secondary header, its process aside.
+const REQUEST: u16 = 0x1800;
+
+/// The first two octets of a report with a secondary header, its process aside.
+const REPORT: u16 = 0x0800;
+
+/// The sequence flags of a packet that isn't segmented, before its count.
+const UNSEGMENTED: u16 = 0xc000;
+
 /// The request packet of these headers and this body.
 #[tactic(auto, using(crate::proofs::Lengths::command_length))]
 pub fn join_tc(
@@ -68,7 +77,7 @@ fn command(
     ensures { IfOk result (λ octets. octets ≡ command_packet checksum header.now body.now) }
 {
     let mut out = Vec::with_capacity(alloc, size)?;
-    put_primary(&mut out, 0x1800 + header.apid, header.count, size)?;
+    put_primary(&mut out, REQUEST + header.apid, header.count, size)?;
     put_secondary(&mut out, header.flags, header.service, header.subtype)?;
     put_word(&mut out, header.source)?;
     out.extend_from_slice(body)?;
@@ -91,7 +100,7 @@ fn report(
     ensures { IfOk result (λ octets. octets ≡ report_packet checksum time header.now body.now) }
 {
     let mut out = Vec::with_capacity(alloc, size)?;
-    put_primary(&mut out, 0x800 + header.apid, header.count, size)?;
+    put_primary(&mut out, REPORT + header.apid, header.count, size)?;
     put_secondary(&mut out, header.status, header.service, header.subtype)?;
     put_word(&mut out, header.counter)?;
     put_word(&mut out, header.destination)?;
@@ -107,7 +116,7 @@ pub fn request_id(header: &TcHeader) -> RequestId
     ensures { (t : TailoringParts) (body : List ℕ) → result ≡ id_of_packet (command_octets t header.now body) }
 {
     RequestId {
-        word: u32::from(0x1800 + header.apid) * 65_536 + u32::from(0xc000 + header.count),
+        word: u32::from(REQUEST + header.apid) * 65_536 + u32::from(UNSEGMENTED + header.count),
     }
 }
 
@@ -123,11 +132,11 @@ fn put_primary(
     ensures { OnOk result (out.new.items ≡ out.old.items ++ (octets_of 2 identification ++ (octets_of 2 (0xc000 + count) ++ octets_of 2 (size - 7)))) }
 {
     put_word(out, identification)?;
-    put_word(out, 0xc000 + count)?;
+    put_word(out, UNSEGMENTED + count)?;
     put_word(out, (size - 7) as u16)
 }
 
-/// Appends the first three octets of a secondary header.
+/// Appends the first three octets of a secondary header, whose PUS version is 2.
 fn put_secondary(out: &mut Vec<u8>, low: u8, service: u8, subtype: u8) -> Result<(), Memory>
     requires { low < 2 ^ 4 }
     ensures { OnOk result (out.new.items ≡ out.old.items ++ (0x20 + low) ∷ service ∷ subtype ∷ []) }

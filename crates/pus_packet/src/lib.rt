@@ -6,6 +6,8 @@ mod header;
 mod join;
 mod laws;
 mod split;
+#[cfg(test)]
+mod tests;
 
 pub use checksum::crc16;
 pub use header::{JoinFault, PacketFault, TcHeader, TmHeader};

@@ -1,3 +1,9 @@
 mod Polynomials
 mod Registers
 mod Table
+mod Lengths
+mod Parts
+mod Checksums
+mod Fronts
+mod JoiningLemmas
+mod SplittingLemmas

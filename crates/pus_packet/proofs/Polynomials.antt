@@ -51,7 +51,7 @@ sum-zeros (suc n) [] are = refl
 sum-zeros (suc n) (x ∷ bits) are = rw (bit-again x are.0, sum-zeros n bits are.1) refl
 
 -- the bits behind one that is divided off
-abbrev divided_off : Bool → List ℕ → List ℕ
+abbrev pub divided_off : Bool → List ℕ → List ℕ
 divided_off one bits = if one then sum_onto generator bits else bits
 
 length-divided_off : (one : Bool) (bits : List ℕ) → length (divided_off one bits) ≡ length bits

@@ -30,7 +30,7 @@ pub left-end : (register : ℕ) → register < 2 ^ 16 → left_by register [] �
 unfolding left_by
 left-end register fits = ap (number 2) (sum-nothing register) ∙ (number-digits 2 16 register (omega arith) ∙ mod-eq_of_lt fits)
 
-both : {x y : ℕ} {xs ys : List ℕ} → x ≡ y → xs ≡ ys → x ∷ xs ≡ y ∷ ys
+pub both : {x y : ℕ} {xs ys : List ℕ} → x ≡ y → xs ≡ ys → x ∷ xs ≡ y ∷ ys
 both p q = rw (p, q) refl
 
 -- the high half of a register
@@ -74,7 +74,7 @@ divided register octet n bits fits small are =
     ∙ (remainder-add 8 n (digits 2 8 index ++ sum_onto (digits 2 16 moved) bits)
     ∙ ap (remainder n) (remainder-sum 8 (digits 2 8 index) (digits 2 16 moved) bits refl (lit≤ tt) refl ∙ ap (λ xs. sum_onto xs bits) apart))
 
-bits-zeros : (n : ℕ) → AllBelowBase 2 (replicate n 0)
+pub bits-zeros : (n : ℕ) → AllBelowBase 2 (replicate n 0)
 bits-zeros zero = tt
 bits-zeros (suc n) = (lit< tt, bits-zeros n)
 

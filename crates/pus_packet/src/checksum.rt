@@ -1,11 +1,9 @@
-ghost use Rattle.std.specs.Prelude.{◌≡◌, ◌≤◌, ◌^◌, ◌++◌, length, replicate, slice_index};
-ghost use Rattle.pus_packet.specs.Packets.{crc, remainder};
-ghost use Rattle.hk_base.specs.Fields.{digits};
+ghost use Rattle.std.specs.Prelude.{◌≡◌, slice_index};
+ghost use Rattle.pus_packet.specs.Packets.{crc};
 
-/// The checksum of a packet (ECSS-E-ST-70-41C, annex B.1): the cyclic redundancy code of 16 bits with the generator
+/// The checksum of a packet (ECSS-E-ST-70-41C, annex B): the cyclic redundancy code of 16 bits with the generator
 /// x^16 + x^12 + x^5 + 1 and the start value ffff.
 pub fn crc16(bytes: &[u8]) -> u16
-    requires size { length bytes.now ≤ 2 ^ 31 }
     ensures { result ≡ crc bytes.now }
 {
     let mut register = 0xffff_u16;

@@ -1,3 +1,6 @@
+use hk_base::Memory;
+use std::alloc::AllocError;
+
 /// The headers of a request packet (CCSDS 133.0-B, and the secondary header of ECSS-E-ST-70-41C, 7.4.4.1).
 #[derive(Clone, Copy, Debug, PartialEq, Eq, Drop)]
 pub struct TcHeader {
@@ -45,4 +48,35 @@ pub enum PacketFault {
     PusVersion(u8),
     /// The checksum that the packet has, and the one of its octets.
     Checksum(u16, u16),
+}
+
+/// Why headers and a body are no packet.
+#[derive(Clone, Copy, Debug, PartialEq, Eq, Drop)]
+pub enum JoinFault {
+    /// The packet would have so many octets, more than 65,542.
+    TooLong(u32),
+    /// There was no memory.
+    Memory,
+}
+
+impl From<Memory> for JoinFault {
+    ghost use Rattle.std.specs.Prelude.{◌≡◌};
+    ghost use Rattle.pus_packet.specs.declared.header.JoinFault.TheVariants.{Memory};
+
+    ghost from_gives = { λ _ fault. fault ≡ Memory };
+
+    fn from(_: Memory) -> JoinFault {
+        JoinFault::Memory
+    }
+}
+
+impl From<AllocError> for JoinFault {
+    ghost use Rattle.std.specs.Prelude.{◌≡◌};
+    ghost use Rattle.pus_packet.specs.declared.header.JoinFault.TheVariants.{Memory};
+
+    ghost from_gives = { λ _ fault. fault ≡ Memory };
+
+    fn from(_: AllocError) -> JoinFault {
+        JoinFault::Memory
+    }
 }

@@ -3,8 +3,14 @@
 
 mod checksum;
 mod header;
+mod join;
+mod laws;
 mod split;
+#[cfg(test)]
+mod tests;
 
 pub use checksum::crc16;
-pub use header::{PacketFault, TcHeader, TmHeader};
+pub use header::{JoinFault, PacketFault, TcHeader, TmHeader};
+pub use join::{join_tc, join_tm, request_id};
+pub use laws::packets;
 pub use split::{apid_of, split_tc, split_tm};

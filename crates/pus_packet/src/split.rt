@@ -1,5 +1,6 @@
-ghost use Rattle.std.specs.Prelude.{◌≡◌, ◌<◌, ◌≤◌, ◌+◌, ◌^◌, length, take, IfNone, true};
+ghost use Rattle.std.specs.Prelude.{◌≡◌, ◌<◌, ◌≤◌, ◌+◌, ◌^◌, length, take, IfNone, IfOk, true};
 ghost use Rattle.hk_base.specs.Fields.{number_of};
+ghost use Rattle.pus_packet.specs.Joining.{IsCommand, IsReport};
 ghost use Rattle.pus_packet.specs.Packets as packets;
 ghost use Rattle.pus_packet.specs.Packets.{Gives, word_at, split_command, split_report, process, process_of, first_fault, header_faults};
 
@@ -13,7 +14,8 @@ pub fn split_tc<'a>(
     bytes: &'a [u8],
 ) -> Result<(TcHeader, &'a [u8]), PacketFault>
     requires size { length bytes.now ≤ 2 ^ 31 }
-    ensures { Gives (λ x. (x.0, x.1.now)) result (split_command tailoring.now bytes.now) }
+    ensures gives { Gives (λ x. (x.0, x.1.now)) result (split_command tailoring.now bytes.now) }
+    ensures fits { IfOk result (λ x. IsCommand x.0) }
 {
     let checksum = tailoring.widths().tc_checksum;
     if let Some(fault) = packet_fault(bytes, 1, 11, checksum) {
@@ -36,7 +38,8 @@ pub fn split_tm<'a>(
     bytes: &'a [u8],
 ) -> Result<(TmHeader, &'a [u8]), PacketFault>
     requires size { length bytes.now ≤ 2 ^ 31 }
-    ensures { Gives (λ x. (x.0, x.1.now)) result (split_report tailoring.now bytes.now) }
+    ensures gives { Gives (λ x. (x.0, x.1.now)) result (split_report tailoring.now bytes.now) }
+    ensures fits { IfOk result (λ x. IsReport (packets.time_octets tailoring.now) x.0) }
 {
     let widths = tailoring.widths();
     let time = widths.coarse + widths.fine;
@@ -59,7 +62,6 @@ pub fn split_tm<'a>(
 
 /// The application process of octets that have a primary header; None where they have fewer than its 6 octets.
 pub fn apid_of(bytes: &[u8]) -> Option<u16>
-    requires size { length bytes.now ≤ 2 ^ 31 }
     ensures { result ≡ process_of bytes.now }
 {
     if bytes.len() < 6 {
@@ -126,7 +128,7 @@ fn header_fault(bytes: &[u8], wanted: u8, least: usize) -> Option<PacketFault>
 
 /// The fault of the checksum in the last two octets.
 fn checksum_fault(bytes: &[u8]) -> Option<PacketFault>
-    requires size { (2 ≤ length bytes.now) × (length bytes.now ≤ 2 ^ 31) }
+    requires { 2 ≤ length bytes.now }
     ensures { result ≡ packets.checksum_fault true bytes.now }
 {
     let field = word(bytes, bytes.len() - 2);
@@ -147,7 +149,7 @@ fn checked_part(bytes: &[u8], checksum: bool) -> &[u8]
 }
 
 /// How many octets a checksum has, where it is on.
-fn checksum_octets(on: bool) -> usize
+pub(crate) fn checksum_octets(on: bool) -> usize
     ensures { result ≡ packets.checksum_octets on }
 {
     if on { 2 } else { 0 }
@@ -173,7 +175,8 @@ fn word(bytes: &[u8], at: usize) -> u16
 fn tag_at(bytes: &[u8], octets: u8) -> u64
     requires width { (1 ≤ octets) × (octets ≤ 7) }
     requires enough { octets ≤ length bytes.now }
-    ensures { result ≡ number_of (take octets bytes.now) }
+    ensures value { result ≡ number_of (take octets bytes.now) }
+    ensures fits { result < 256 ^ octets }
 {
     match get_uint(bytes, octets) {
         Ok(tag) => tag as u64,

@@ -44,12 +44,7 @@ fn is_end(answer: &Result<Option<(u64, Entry)>, RecordFault>) -> bool {
 }
 
 /// Reads `RECORD` with a buffer of `most` octets from a shelf that gives `given` octets at a time.
-fn read_in_pieces(
-    alloc: Global,
-    rt: &impl Abort,
-    most: u32,
-    given: u32,
-) -> Result<(), Fail>
+fn read_in_pieces(alloc: Global, rt: &impl Abort, most: u32, given: u32) -> Result<(), Fail>
     requires buffer { 0 < most }
     requires pieces { 1 ≤ given }
 {

@@ -4,12 +4,13 @@ use Rattle.std.specs.Prelude.{flat_map, map, nat_lt, ◌==◌, if◌then◌else�
 use Rattle.std.proofs.lemmas.List.{drop-append-le, length-drop, length-take-le}
 use Rattle.std.proofs.lemmas.Bool.Decides.{nat_tests}
 use Rattle.hk_base.specs.Fields.{octets_of, number_of}
-use Rattle.session_record.specs.Records.{Header, Entries, most_entries, most_octets, header_of, header_octets, header_in, after_header, read_record, fault_in, record_fault, record_octets, whole_front, trimmed, kind_octet, entry_of_kind, entry_after_kind, entry_octets, entry_size, held_octets, next_entry, entry_before, entries_from}
+use Rattle.session_record.specs.Records.{Header, Entries, most_entries, most_octets, header_of, header_octets, header_in, after_header, read_record, fault_in, record_fault, FitIn, record_octets, whole_front, trimmed, kind_octet, entry_of_kind, entry_after_kind, entry_octets, entry_size, held_octets, next_entry, entry_before, entries_from}
 use Rattle.session_record.specs.Reading.{is_final, no_entries}
 use Rattle.session_record.specs.declared.entry.Entry.{Entry}
 use Rattle.session_record.specs.declared.entry.Entry.TheVariants.{Sent, Got, Line}
 use Rattle.session_record.specs.declared.entry.RecordFault.{RecordFault}
 use Rattle.session_record.specs.declared.entry.RecordFault.TheVariants.{Cut, TooLong}
+use Rattle.session_record.proofs.RecordLemmas.{record-read}
 use Rattle.session_record.proofs.NextLemmas.{header-long, header-more, next-more, first-entry, no-entry, faulty-entry}
 
 -- the octets of the entries that were read
@@ -31,25 +32,27 @@ holds kind make is held = by_sent (kind == 0x53) (kind == 0x47) (kind == 0x4a) i
 
 -- an entry that is found is within the octets
 after-within : (offset kind : ℕ) (rest : List ℕ) (make : Option (List ℕ → Entry)) (e : Entry) → entry_of_kind kind ≡ make → entry_after_kind offset kind rest make ≡ Ok (Some e)
-    → entry_size e ≤ suc (length rest)
+    → (entry_size e ≤ suc (length rest)) × (offset + entry_size e ≤ most_octets)
 after-within offset kind rest None e is found = absurd (cc found)
 after-within offset kind rest (Some make) e is found =
-    by_tests (nat_lt (length rest) 4) (nat_lt most_octets (offset + 5 + number_of (take 4 rest))) (nat_lt (length rest) (4 + number_of (take 4 rest))) refl found
+    by_tests (nat_lt (length rest) 4) (nat_lt most_octets (offset + 5 + number_of (take 4 rest))) (nat_lt (length rest) (4 + number_of (take 4 rest))) refl refl found
   where
-    by_tests : (short long cut : Bool) → nat_lt (length rest) (4 + number_of (take 4 rest)) ≡ cut
+    by_tests : (short long cut : Bool) → nat_lt most_octets (offset + 5 + number_of (take 4 rest)) ≡ long → nat_lt (length rest) (4 + number_of (take 4 rest)) ≡ cut
         → (if short then Err (Cut offset) else if long then Err (TooLong offset) else if cut then Err (Cut offset) else Ok (Some (make (take (number_of (take 4 rest)) (drop 4 rest))))) ≡ Ok (Some e)
-        → entry_size e ≤ suc (length rest)
-    by_tests true long cut enough found = absurd (cc found)
-    by_tests false true cut enough found = absurd (cc found)
-    by_tests false false true enough found = absurd (cc found)
-    by_tests false false false enough found =
+        → (entry_size e ≤ suc (length rest)) × (offset + entry_size e ≤ most_octets)
+    by_tests true long cut small enough found = absurd (cc found)
+    by_tests false true cut small enough found = absurd (cc found)
+    by_tests false false true small enough found = absurd (cc found)
+    by_tests false false false small enough found =
         let size = number_of (take 4 rest) in
         let same : make (take size (drop 4 rest)) ≡ e = cc in
         let held : held_octets e ≡ take size (drop 4 rest) = ap held_octets (sym same) ∙ holds kind make is (take size (drop 4 rest)) in
         let whole : 4 + size ≤ length rest = grind (arith, nat_tests) in
         let left = length-drop 4 rest in
         let room : length (take size (drop 4 rest)) ≡ size = length-take-le size (drop 4 rest) (omega arith) in
-        omega (arith, ap (λ (xs : List ℕ). length xs) held)
+        let few : offset + 5 + size ≤ most_octets = grind (arith, nat_tests) in
+        let sizes = ap (λ (xs : List ℕ). length xs) held in
+        (omega arith, omega arith)
 
 -- no entry is found only where there are no octets
 after-some : (offset kind : ℕ) (rest : List ℕ) (make : Option (List ℕ → Entry)) → entry_after_kind offset kind rest make ≡ Ok None → ⊥
@@ -68,7 +71,8 @@ none-found room offset [] found = refl
 none-found zero offset (kind ∷ rest) found = absurd (cc found)
 none-found (suc room) offset (kind ∷ rest) found = absurd (after-some offset kind rest (entry_of_kind kind) found)
 
-found-within : (room offset : ℕ) (octets : List ℕ) (e : Entry) → next_entry (suc room) offset octets ≡ Ok (Some e) → entry_size e ≤ length octets
+found-within : (room offset : ℕ) (octets : List ℕ) (e : Entry) → next_entry (suc room) offset octets ≡ Ok (Some e)
+    → (entry_size e ≤ length octets) × (offset + entry_size e ≤ most_octets)
 found-within room offset [] e found = absurd (cc found)
 found-within room offset (kind ∷ rest) e found = after-within offset kind rest (entry_of_kind kind) e refl found
 
@@ -95,7 +99,7 @@ longest-entries (suc room) offset part more clean =
     by_next (Err fault) is later = absurd (cc (sym (ap (λ (x : Entries). x.fault) (faulty-entry (suc room) offset part fault is)) ∙ clean))
     by_next (Ok (Some e)) is later =
         let size = entry_size e in
-        let within = found-within room offset part e is in
+        let within = (found-within room offset part e is).0 in
         let left : suc room - 1 ≡ room = omega arith in
         let inner : entries_from (suc room) offset part ≡ entry_before offset e (entries_from room (offset + size) (drop size part)) =
             first-entry (suc room) offset part e (omega arith) is ∙ ap (λ n. entry_before offset e (entries_from n (offset + size) (drop size part))) left in
@@ -141,3 +145,38 @@ no-longer part more front is clean = by_header (header_in part) refl
         let same : record_octets h (map (λ e. e.1) (entries_from most_entries 8 (drop 8 part ++ more)).list) ≡ front = cc in
         let within = longest-entries most_entries 8 (drop 8 part) more fine in
         omega (arith, within, trimmed-size h (entries_from most_entries 8 (drop 8 part ++ more)), ap (λ (xs : List ℕ). length xs) same, length-drop 8 part)
+
+-- the entries that were read are those of a record
+entries-fit : (room offset : ℕ) (octets : List ℕ) → FitIn room offset (map (λ e. e.1) (entries_from room offset octets).list)
+entries-fit zero offset octets = by_next (next_entry zero offset octets) refl
+  where
+    by_next : (n : Result (Option Entry) RecordFault) → next_entry zero offset octets ≡ n → FitIn zero offset (map (λ e. e.1) (entries_from zero offset octets).list)
+    by_next (Ok None) is = let P : Entries → Type 0 = λ x. FitIn zero offset (map (λ e. e.1) x.list) in subst P (sym (no-entry zero offset octets is)) tt
+    by_next (Err fault) is = let P : Entries → Type 0 = λ x. FitIn zero offset (map (λ e. e.1) x.list) in subst P (sym (faulty-entry zero offset octets fault is)) tt
+    by_next (Ok (Some e)) is = absurd (none-beyond offset octets e is)
+entries-fit (suc room) offset octets = by_next (next_entry (suc room) offset octets) refl (λ e. entries-fit room (offset + entry_size e) (drop (entry_size e) octets))
+  where
+    by_next : (n : Result (Option Entry) RecordFault) → next_entry (suc room) offset octets ≡ n
+        → ((e : Entry) → FitIn room (offset + entry_size e) (map (λ e. e.1) (entries_from room (offset + entry_size e) (drop (entry_size e) octets)).list))
+        → FitIn (suc room) offset (map (λ e. e.1) (entries_from (suc room) offset octets).list)
+    by_next (Ok None) is later = let P : Entries → Type 0 = λ x. FitIn (suc room) offset (map (λ e. e.1) x.list) in subst P (sym (no-entry (suc room) offset octets is)) tt
+    by_next (Err fault) is later = let P : Entries → Type 0 = λ x. FitIn (suc room) offset (map (λ e. e.1) x.list) in subst P (sym (faulty-entry (suc room) offset octets fault is)) tt
+    by_next (Ok (Some e)) is later =
+        let P : Entries → Type 0 = λ x. FitIn (suc room) offset (map (λ e. e.1) x.list) in
+        let left : suc room - 1 ≡ room = omega arith in
+        let inner : entries_from (suc room) offset octets ≡ entry_before offset e (entries_from room (offset + entry_size e) (drop (entry_size e) octets)) =
+            first-entry (suc room) offset octets e (omega arith) is ∙ ap (λ n. entry_before offset e (entries_from n (offset + entry_size e) (drop (entry_size e) octets))) left in
+        subst P (sym inner) ((found-within room offset octets e is).1, later e)
+
+-- what is trimmed is a record with no fault
+pub trimmed-clean : (octets front : List ℕ) → trimmed octets ≡ Some front → record_fault front ≡ None
+trimmed-clean octets front is = by_header (header_in octets) refl
+  where
+    by_header : (o : Option Header) → header_in octets ≡ o → record_fault front ≡ None
+    by_header None at = absurd (cc (sym (ap (λ o. whole_front (after_header most_entries 8 octets o)) at) ∙ is))
+    by_header (Some h) at =
+        let out : Some (record_octets h (map (λ e. e.1) (entries_from most_entries 8 (drop 8 octets)).list)) ≡ Some front =
+            sym (ap (λ o. whole_front (after_header most_entries 8 octets o)) at) ∙ is in
+        let same : record_octets h (map (λ e. e.1) (entries_from most_entries 8 (drop 8 octets)).list) ≡ front = cc in
+        ap record_fault (sym same)
+        ∙ ap fault_in (record-read h (map (λ e. e.1) (entries_from most_entries 8 (drop 8 octets)).list) (entries-fit most_entries 8 (drop 8 octets)))

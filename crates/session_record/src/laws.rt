@@ -9,9 +9,10 @@ pub fn records_are_read_back()
         → read_record (record_octets h entries) ≡ Ok (h, record { list = located 8 entries; fault = None }) }
 {}
 
-/// No first part of octets that is a record without a fault is longer than what is left of them when they are trimmed.
-pub fn no_record_is_longer()
-    ensures { (octets front : List ℕ) (n : ℕ) → trimmed octets ≡ Some front → record_fault (take n octets) ≡ None
+/// What is left of octets when they are trimmed is a record without a fault, and no first part of them that is one is longer.
+pub fn trimmed_is_the_longest_record()
+    ensures whole { (octets front : List ℕ) → trimmed octets ≡ Some front → record_fault front ≡ None }
+    ensures longest { (octets front : List ℕ) (n : ℕ) → trimmed octets ≡ Some front → record_fault (take n octets) ≡ None
         → length (take n octets) ≤ length front }
 {
 }

@@ -1,11 +1,11 @@
 -- The longest first part of octets that is a record.
-use Rattle.std.proofs.Common.{arith, ◌≡◌, ◌+◌, ◌-◌, ◌*◌, ◌^◌, ◌/◌, ◌%◌, ◌<◌, ◌≤◌, ℕ, zero, suc, List, [], ◌∷◌, ◌++◌, length, take, drop, get_or, Bool, true, false, Option, Some, None, Result, Ok, Err, refl, sym, ap, subst, ◌∙◌, length-append}
+use Rattle.std.proofs.Common.{arith, ◌≡◌, ◌+◌, ◌-◌, ◌≤◌, ℕ, zero, suc, List, [], ◌∷◌, ◌++◌, length, take, drop, Bool, true, false, Option, Some, None, Result, Ok, Err, refl, sym, ap, subst, ◌∙◌, length-append}
 use Rattle.std.specs.Prelude.{flat_map, map, nat_lt, ◌==◌, if◌then◌else◌}
 use Rattle.std.proofs.lemmas.List.{drop-append-le, length-drop, length-take-le}
 use Rattle.std.proofs.lemmas.Bool.Decides.{nat_tests}
 use Rattle.hk_base.specs.Fields.{octets_of, number_of}
-use Rattle.session_record.specs.Records.{Header, Entries, most_entries, most_octets, header_of, header_octets, header_in, after_header, read_record, fault_in, record_fault, FitIn, record_octets, whole_front, trimmed, kind_octet, entry_of_kind, entry_after_kind, entry_octets, entry_size, held_octets, next_entry, entry_before, entries_from}
-use Rattle.session_record.specs.Reading.{is_final, no_entries}
+use Rattle.session_record.specs.Records.{Header, Entries, most_entries, most_octets, header_of, header_octets, header_in, after_header, read_record, fault_in, record_fault, FitIn, record_octets, whole_front, trimmed, entry_of_kind, entry_after_kind, entry_octets, entry_size, held_octets, next_entry, entry_before, entries_from}
+use Rattle.session_record.specs.Reading.{is_final}
 use Rattle.session_record.specs.declared.entry.Entry.{Entry}
 use Rattle.session_record.specs.declared.entry.Entry.TheVariants.{Sent, Got, Line}
 use Rattle.session_record.specs.declared.entry.RecordFault.{RecordFault}
@@ -93,7 +93,7 @@ longest-entries (suc room) offset part more clean =
   where
     by_next : (n : Result (Option Entry) RecordFault) → next_entry (suc room) offset part ≡ n
         → ((e : Entry) → (entries_from room (offset + entry_size e) (drop (entry_size e) part)).fault ≡ None
-            → length (drop (entry_size e) part) ≤ length (whole_octets (entries_from room (offset + entry_size e) (drop (entry_size e) part ++ more))))
+        → length (drop (entry_size e) part) ≤ length (whole_octets (entries_from room (offset + entry_size e) (drop (entry_size e) part ++ more))))
         → length part ≤ length (whole_octets (entries_from (suc room) offset (part ++ more)))
     by_next (Ok None) is later = omega (arith, ap (λ (xs : List ℕ). length xs) (none-found (suc room) offset part is))
     by_next (Err fault) is later = absurd (cc (sym (ap (λ (x : Entries). x.fault) (faulty-entry (suc room) offset part fault is)) ∙ clean))
@@ -102,17 +102,17 @@ longest-entries (suc room) offset part more clean =
         let within = (found-within room offset part e is).0 in
         let left : suc room - 1 ≡ room = omega arith in
         let inner : entries_from (suc room) offset part ≡ entry_before offset e (entries_from room (offset + size) (drop size part)) =
-            first-entry (suc room) offset part e (omega arith) is ∙ ap (λ n. entry_before offset e (entries_from n (offset + size) (drop size part))) left in
+        first-entry (suc room) offset part e (omega arith) is ∙ ap (λ n. entry_before offset e (entries_from n (offset + size) (drop size part))) left in
         let fine : (entries_from room (offset + size) (drop size part)).fault ≡ None = sym (ap (λ (x : Entries). x.fault) inner) ∙ clean in
         let same : next_entry (suc room) offset (part ++ more) ≡ Ok (Some e) = next-more (suc room) offset part more (ap is_final is) ∙ is in
         let outer : entries_from (suc room) offset (part ++ more) ≡ entry_before offset e (entries_from room (offset + size) (drop size part ++ more)) =
-            first-entry (suc room) offset (part ++ more) e (omega arith) same
-            ∙ ap (λ n. entry_before offset e (entries_from n (offset + size) (drop size (part ++ more)))) left
-            ∙ ap (λ xs. entry_before offset e (entries_from room (offset + size) xs)) (drop-append-le size part more within) in
+        first-entry (suc room) offset (part ++ more) e (omega arith) same
+        ∙ ap (λ n. entry_before offset e (entries_from n (offset + size) (drop size (part ++ more)))) left
+        ∙ ap (λ xs. entry_before offset e (entries_from room (offset + size) xs)) (drop-append-le size part more within) in
         let whole : length (whole_octets (entries_from (suc room) offset (part ++ more))) ≡ size + length (whole_octets (entries_from room (offset + size) (drop size part ++ more))) =
-            ap (λ (x : Entries). length (whole_octets x)) outer
-            ∙ length-append (entry_octets e) (whole_octets (entries_from room (offset + size) (drop size part ++ more)))
-            ∙ ap (λ n. n + length (whole_octets (entries_from room (offset + size) (drop size part ++ more)))) (length-entry e) in
+        ap (λ (x : Entries). length (whole_octets x)) outer
+        ∙ length-append (entry_octets e) (whole_octets (entries_from room (offset + size) (drop size part ++ more)))
+        ∙ ap (λ n. n + length (whole_octets (entries_from room (offset + size) (drop size part ++ more)))) (length-entry e) in
         omega (arith, later e fine, whole, length-drop size part)
 
 header-size : (h : Header) → length (header_octets h) ≡ 8
@@ -139,8 +139,8 @@ no-longer part more front is clean = by_header (header_in part) refl
         let read : read_record part ≡ Ok (h, entries_from most_entries 8 (drop 8 part)) = ap (after_header most_entries 8 part) at in
         let fine : (entries_from most_entries 8 (drop 8 part)).fault ≡ None = sym (ap fault_in read) ∙ clean in
         let whole : read_record (part ++ more) ≡ Ok (h, entries_from most_entries 8 (drop 8 part ++ more)) =
-            ap (after_header most_entries 8 (part ++ more)) (header-more part more long ∙ at)
-            ∙ ap (λ xs. Ok (h, entries_from most_entries 8 xs)) (drop-append-le 8 part more long) in
+        ap (after_header most_entries 8 (part ++ more)) (header-more part more long ∙ at)
+        ∙ ap (λ xs. Ok (h, entries_from most_entries 8 xs)) (drop-append-le 8 part more long) in
         let out : Some (record_octets h (map (λ e. e.1) (entries_from most_entries 8 (drop 8 part ++ more)).list)) ≡ Some front = sym (ap whole_front whole) ∙ is in
         let same : record_octets h (map (λ e. e.1) (entries_from most_entries 8 (drop 8 part ++ more)).list) ≡ front = cc in
         let within = longest-entries most_entries 8 (drop 8 part) more fine in
@@ -165,7 +165,7 @@ entries-fit (suc room) offset octets = by_next (next_entry (suc room) offset oct
         let P : Entries → Type 0 = λ x. FitIn (suc room) offset (map (λ e. e.1) x.list) in
         let left : suc room - 1 ≡ room = omega arith in
         let inner : entries_from (suc room) offset octets ≡ entry_before offset e (entries_from room (offset + entry_size e) (drop (entry_size e) octets)) =
-            first-entry (suc room) offset octets e (omega arith) is ∙ ap (λ n. entry_before offset e (entries_from n (offset + entry_size e) (drop (entry_size e) octets))) left in
+        first-entry (suc room) offset octets e (omega arith) is ∙ ap (λ n. entry_before offset e (entries_from n (offset + entry_size e) (drop (entry_size e) octets))) left in
         subst P (sym inner) ((found-within room offset octets e is).1, later e)
 
 -- what is trimmed is a record with no fault
@@ -176,7 +176,7 @@ trimmed-clean octets front is = by_header (header_in octets) refl
     by_header None at = absurd (cc (sym (ap (λ o. whole_front (after_header most_entries 8 octets o)) at) ∙ is))
     by_header (Some h) at =
         let out : Some (record_octets h (map (λ e. e.1) (entries_from most_entries 8 (drop 8 octets)).list)) ≡ Some front =
-            sym (ap (λ o. whole_front (after_header most_entries 8 octets o)) at) ∙ is in
+        sym (ap (λ o. whole_front (after_header most_entries 8 octets o)) at) ∙ is in
         let same : record_octets h (map (λ e. e.1) (entries_from most_entries 8 (drop 8 octets)).list) ≡ front = cc in
         ap record_fault (sym same)
         ∙ ap fault_in (record-read h (map (λ e. e.1) (entries_from most_entries 8 (drop 8 octets)).list) (entries-fit most_entries 8 (drop 8 octets)))

@@ -14,5 +14,4 @@ pub fn trimmed_is_the_longest_record()
     ensures whole { (octets front : List ℕ) → trimmed octets ≡ Some front → record_fault front ≡ None }
     ensures longest { (octets front : List ℕ) (n : ℕ) → trimmed octets ≡ Some front → record_fault (take n octets) ≡ None
         → length (take n octets) ≤ length front }
-{
-}
+{}

@@ -3,3 +3,4 @@ pub mod NextLemmas
 pub mod ReadingLemmas
 pub mod WritingLemmas
 pub mod RecordLemmas
+pub mod TrimLemmas

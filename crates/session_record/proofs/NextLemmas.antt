@@ -1,12 +1,11 @@
 -- What is held in full doesn't change by what follows.
 use Rattle.std.proofs.Common.{arith, ◌≡◌, ◌+◌, ◌-◌, ◌<◌, ◌≤◌, ◌⊎◌, inl, inr, ℕ, zero, suc, List, [], ◌∷◌, ◌++◌, length, take, drop, Bool, true, false, Option, Some, None, Result, Ok, Err, refl, sym, ap, ◌∙◌, length-append}
-use Rattle.std.specs.Prelude.{nat_lt, nat_le, if◌then◌else◌}
+use Rattle.std.specs.Prelude.{nat_lt, if◌then◌else◌}
 use Rattle.std.proofs.lemmas.List.{take-append-le, drop-append-le}
 use Rattle.std.proofs.lemmas.Bool.Decides.{nat_tests}
 use Rattle.std.proofs.lemmas.Grind.{common_steps}
 use Rattle.hk_base.specs.Fields.{number_of}
 use Rattle.session_record.specs.Records.{Header, most_octets, header_spelled, header_in, entry_size, entry_of_kind, entry_after_kind, next_entry, entry_before, entries_by, entries_from}
-use Rattle.session_record.specs.Faults.{is_cut}
 use Rattle.session_record.specs.Reading.{is_final, no_entries}
 use Rattle.session_record.specs.declared.entry.Entry.{Entry}
 use Rattle.session_record.specs.declared.entry.RecordFault.{RecordFault}

@@ -1,15 +1,14 @@
 -- A record is read back from its octets.
-use Rattle.std.proofs.Common.{arith, ◌≡◌, refl, sym, ap, ◌∙◌, ℕ, zero, suc, ◌+◌, ◌-◌, ◌*◌, ◌^◌, ◌<◌, ◌≤◌, List, [], ◌∷◌, ◌++◌, length, length-append, append-nil, append_assoc, Bool, true, false, Option, Some, None, Result, Ok, Err}
-use Rattle.std.specs.Prelude.{take, drop, nat_lt, flat_map, if◌then◌else◌}
+use Rattle.std.proofs.Common.{arith, ◌≡◌, refl, sym, ap, ◌∙◌, ℕ, zero, suc, ◌+◌, ◌≤◌, List, [], ◌∷◌, ◌++◌, length, length-append, Bool, true, false, Some, None, Ok}
+use Rattle.std.specs.Prelude.{drop, nat_lt, flat_map}
 use Rattle.std.proofs.Math.Seq.{drop-append_seam, take-append_seam}
 use Rattle.std.proofs.Math.Nat.{mod-eq_of_lt}
 use Rattle.std.proofs.lemmas.Bool.Decides.{nat_tests}
 use Rattle.hk_base.specs.Fields.{octets_of, number_of}
 use Rattle.hk_base.proofs.FieldLemmas.{number-digits}
-use Rattle.session_record.specs.Records.{Header, Entries, most_entries, most_octets, header_of, header_octets, header_in, held_octets, kind_octet, entry_octets, entry_size, record_octets, entry_of_kind, entry_after_kind, next_entry, entry_before, entries_by, entries_from, after_header, read_record, located, FitIn}
+use Rattle.session_record.specs.Records.{Header, most_entries, most_octets, header_of, header_octets, header_in, held_octets, kind_octet, entry_octets, entry_size, record_octets, entry_after_kind, next_entry, entries_from, after_header, read_record, located, FitIn}
 use Rattle.session_record.specs.declared.entry.Entry.{Entry}
 use Rattle.session_record.specs.declared.entry.Entry.TheVariants.{Sent, Got, Line}
-use Rattle.session_record.specs.declared.entry.RecordFault.{RecordFault}
 
 -- what an entry holds, put under its kind again
 held_again : (e : Entry) (rest : List ℕ) (offset : ℕ)

@@ -1,7 +1,7 @@
 -- Faults of a record's octets, and of reading them.
 use Rattle.std.specs.Prelude.{Bool, true, false, Option, Some, None}
 use Rattle.session_record.specs.declared.entry.RecordFault.{RecordFault}
-use Rattle.session_record.specs.declared.entry.RecordFault.TheVariants.{BadMagic, BadKind, Cut, TooLong, TooManyEntries, ReadFault, Memory}
+use Rattle.session_record.specs.declared.entry.RecordFault.TheVariants.{BadMagic, Cut, ReadFault, Memory}
 
 -- an entry isn't all there
 abbrev pub is_cut : RecordFault → Bool

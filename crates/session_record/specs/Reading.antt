@@ -1,12 +1,12 @@
 -- A reader in the middle of a record: what it holds, and what is still to come.
-use Rattle.std.specs.Prelude.{◌≡◌, ℕ, ◌+◌, ◌≤◌, ⊤, List, [], ◌∷◌, ◌++◌, length, drop, Bool, true, false, not, nat_le, Option, Some, None, Result, Ok, Err, IsOk, IsErrOf, IsSome, IfSome, MatchResult}
+use Rattle.std.specs.Prelude.{◌≡◌, ℕ, ◌+◌, ◌≤◌, ⊤, List, [], ◌++◌, length, drop, Bool, true, false, not, nat_le, Option, Some, None, Result, Ok, Err, IsSome, IfSome, MatchResult}
 use Rattle.session_record.specs.Faults.{is_cut, lasting}
 use Rattle.std.specs.Option.{option_map, ForSome}
 use Rattle.hk_base.specs.Outside.{HasRisen}
-use Rattle.session_record.specs.Records.{Header, Entries, most_entries, most_octets, header_in, next_entry, entry_size, entry_before, entries_from, after_header, read_record}
+use Rattle.session_record.specs.Records.{Header, Entries, most_entries, most_octets, header_in, next_entry, entry_size, entry_before, entries_from, after_header}
 use Rattle.session_record.specs.declared.entry.Entry.{Entry}
 use Rattle.session_record.specs.declared.entry.RecordFault.{RecordFault}
-use Rattle.session_record.specs.declared.entry.RecordFault.TheVariants.{BadMagic, BadKind, Cut, TooLong, TooManyEntries, ReadFault, Memory}
+use Rattle.session_record.specs.declared.entry.RecordFault.TheVariants.{BadMagic, ReadFault, Memory}
 
 -- Where a reader stands: the header, once it was read, the offset of the next entry, how many more entries may come,
 -- the octets that were read and not given yet, and the fault of the octets, once one was answered.

@@ -1,11 +1,11 @@
 -- The steps of a reader.
-use Rattle.std.specs.Prelude.{◌≡◌, ℕ, ◌+◌, ◌-◌, ◌<◌, ◌≤◌, List, [], length, drop, Bool, true, false, nat_le, Option, Some, None, Result, Ok, Err, IfSome}
+use Rattle.std.specs.Prelude.{◌≡◌, ℕ, ◌+◌, ◌-◌, ◌<◌, ◌≤◌, List, [], length, drop, Bool, false, nat_le, Option, Some, None, Result, Ok, Err, IfSome}
 use Rattle.session_record.specs.Records.{Header, header_in, next_entry, entry_size, most_octets}
 use Rattle.session_record.specs.Faults.{IsEntryFault}
 use Rattle.session_record.specs.Reading.{Reading, is_final}
 use Rattle.session_record.specs.declared.entry.Entry.{Entry}
 use Rattle.session_record.specs.declared.entry.RecordFault.{RecordFault}
-use Rattle.session_record.specs.declared.entry.RecordFault.TheVariants.{BadMagic, ReadFault, Memory}
+use Rattle.session_record.specs.declared.entry.RecordFault.TheVariants.{BadMagic, Memory}
 
 -- octets have the header in full, or behind it what comes next
 abbrev pub is_ready_at : Option Header → ℕ → ℕ → List ℕ → Bool

@@ -10,7 +10,7 @@ mod reader;
 mod writer;
 
 pub use entry::{Entry, RecordFault, WriteFault};
-pub use laws::records_are_read_back;
+pub use laws::{records_are_read_back, trimmed_is_the_longest_record};
 pub use reader::RecordReader;
 pub use writer::RecordWriter;
 

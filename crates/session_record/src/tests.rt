@@ -1,3 +1,5 @@
+ghost use Rattle.std.specs.Prelude.{◌<◌, ◌≤◌};
+
 use crate::{Entry, RecordFault, RecordReader, RecordWriter};
 use hk_base::{Items, MemShelf, MemSink, Memory, Shelf};
 use std::alloc::Global;
@@ -41,20 +43,35 @@ fn is_end(answer: &Result<Option<(u64, Entry)>, RecordFault>) -> bool {
     matches!(answer, Ok(None))
 }
 
-/// The same entries come in pieces of any size.
-#[test]
-fn pieces(rt: HostRuntime) -> Result<(), Fail> {
-    for (most, given) in [(1, 4096), (4096, 4096), (4096, 1), (7, 5)] {
-        let mut shelf = shelf_of(rt.alloc(), &rt, &RECORD, &[], given)?;
-        let mut reader = RecordReader::new(rt.alloc(), most)?;
-        assert_eq!(rt; reader.known_start(), None);
-        assert!(rt; is_packet(&reader.next(&mut shelf)));
-        assert_eq!(rt; reader.known_start(), Some(true));
-        assert_eq!(rt; reader.long_session(), Some(false));
-        assert!(rt; is_end(&reader.next(&mut shelf)));
-        assert!(rt; is_end(&reader.next(&mut shelf)));
-    }
+/// Reads `RECORD` with a buffer of `most` octets from a shelf that gives `given` octets at a time.
+fn read_in_pieces(alloc: Global, rt: &impl Abort, most: u32, given: u32) -> Result<(), Fail>
+    requires buffer { 0 < most }
+    requires pieces { 1 ≤ given }
+{
+    let mut shelf = shelf_of(alloc, rt, &RECORD, &[], given)?;
+    let mut reader = RecordReader::new(alloc, most)?;
+    assert_eq!(rt; reader.known_start(), None);
+    assert!(rt; is_packet(&reader.next(&mut shelf)));
+    assert_eq!(rt; reader.known_start(), Some(true));
+    assert_eq!(rt; reader.long_session(), Some(false));
+    assert!(rt; is_end(&reader.next(&mut shelf)));
+    assert!(rt; is_end(&reader.next(&mut shelf)));
     Ok(())
+}
+
+#[test]
+fn pieces_of_one_octet(rt: HostRuntime) -> Result<(), Fail> {
+    read_in_pieces(rt.alloc(), &rt, 1, 4096)
+}
+
+#[test]
+fn one_piece(rt: HostRuntime) -> Result<(), Fail> {
+    read_in_pieces(rt.alloc(), &rt, 4096, 4096)
+}
+
+#[test]
+fn a_shelf_that_gives_one_octet(rt: HostRuntime) -> Result<(), Fail> {
+    read_in_pieces(rt.alloc(), &rt, 4096, 1)
 }
 
 /// A read that fails loses nothing: the next call gives what would have come.

@@ -1,5 +1,4 @@
-use Rattle.std.proofs.Common.{◌≡◌, ◌≤◌, ◌+◌, ◌-◌, List, ℕ, take, drop, length, arith, subst, ap, ◌∙◌}
-use Rattle.std.proofs.lemmas.List.{length-drop}
+use Rattle.std.proofs.Common.{List, ℕ, arith, subst, ◌∙◌}
 use Rattle.hk_base.specs.Outside.{Takes}
 use Rattle.session_record.proofs.WritingLemmas.{written-more, room-more}
 use Rattle.session_record.proofs.writer.write_all.Goals as goal

@@ -1,4 +1,4 @@
-use Rattle.std.proofs.Common.{◌≡◌, ◌≤◌, List, ℕ, length, drop, arith, subst, ◌∙◌}
+use Rattle.std.proofs.Common.{List, ℕ, drop, arith, subst, ◌∙◌}
 use Rattle.session_record.specs.Reading.{ahead, KeepsAhead}
 use Rattle.session_record.proofs.HeldLemmas.{keeps-append}
 use Rattle.session_record.proofs.held.Held.read_more.Goals as goal

@@ -1,6 +1,5 @@
-use Rattle.std.proofs.Common.{◌≡◌, ◌∙◌, None, Some, Err, ap, sym, subst}
-use Rattle.session_record.specs.Reading.{Reading, HasHeader, lasting_fault}
-use Rattle.session_record.specs.declared.entry.RecordFault.{RecordFault}
+use Rattle.std.proofs.Common.{◌∙◌, Err, ap, sym, subst}
+use Rattle.session_record.specs.Reading.{Reading, HasHeader}
 use Rattle.session_record.proofs.ReadingLemmas.{again-answers, faulted-answers, lasting-counts, lasting-apart}
 use Rattle.session_record.proofs.reader.RecordReader.next.Goals as goal
 

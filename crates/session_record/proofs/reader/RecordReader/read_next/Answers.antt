@@ -1,7 +1,6 @@
 -- The steps follow one another: gathering, taking the header off, gathering, taking the entry off.
-use Rattle.std.proofs.Common.{◌≡◌, ◌∙◌, true, false, None, Some, Ok, Err, ap, sym}
+use Rattle.std.proofs.Common.{◌∙◌}
 use Rattle.std.proofs.lemmas.Result.{err_from_is_err_and}
-use Rattle.session_record.specs.Reading.{is_settled}
 use Rattle.session_record.proofs.ReadingLemmas.{gathered, bad-magic, read-failed, prepared, read-answers, read-moves, settled-ready, settled-on}
 use Rattle.session_record.proofs.reader.RecordReader.read_next.Goals as goal
 

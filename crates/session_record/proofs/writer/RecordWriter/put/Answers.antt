@@ -1,4 +1,4 @@
-use Rattle.std.proofs.Common.{◌≡◌, ◌∷◌, List, ℕ, length, Result, Ok, Err, subst, sym}
+use Rattle.std.proofs.Common.{◌∷◌, List, ℕ, length, Result, Ok, Err, subst, sym}
 use Rattle.std.proofs.lemmas.Result.{err_from_is_err_and}
 use Rattle.hk_base.specs.Fields.{octets_of}
 use Rattle.session_record.specs.Records.{entry_octets, held_octets, kind_octet}

@@ -13,7 +13,7 @@ use Rattle.pus_packet.specs.declared.header.PacketFault.TheVariants.{Short, Leng
 abbrev pub word_at : ℕ → List ℕ → ℕ
 word_at place octets = number_of (slice_range octets place (place + 2))
 
--- the fields of the primary header
+-- the version in the primary header
 abbrev pub version : List ℕ → ℕ
 version octets = word_at 0 octets / 2 ^ 13
 
@@ -41,7 +41,7 @@ sequence_count octets = word_at 2 octets % 2 ^ 14
 abbrev pub claimed_length : List ℕ → ℕ
 claimed_length octets = word_at 4 octets + 7
 
--- the two halves of the first octet of the secondary header
+-- the version in the first half of the first octet of the secondary header
 abbrev pub pus_version : List ℕ → ℕ
 pus_version octets = slice_index octets 6 / 16
 
@@ -116,7 +116,7 @@ abbrev pub unless_fault : {A : Type 0} → Option PacketFault → A → Result A
 unless_fault None x = Ok x
 unless_fault (Some fault) x = Err fault
 
--- the headers of a request packet and its body, or its first fault
+-- the headers of a request packet
 abbrev pub command_headers : List ℕ → TcHeader
 command_headers octets =
     record {
@@ -133,11 +133,11 @@ abbrev pub split_command : TailoringParts → List ℕ → Result (TcHeader × L
 split_command t octets =
     unless_fault (packet_fault 1 11 t.widths.tc_checksum octets) (command_headers octets, drop 11 (checked_part t.widths.tc_checksum octets))
 
--- the octets of a time, and of both headers of a report packet
+-- how many octets a time has
 abbrev pub time_octets : TailoringParts → ℕ
 time_octets t = t.widths.coarse + t.widths.fine
 
--- the headers of a report packet and its body, or its first fault
+-- the headers of a report packet
 abbrev pub report_headers : TailoringParts → List ℕ → TmHeader
 report_headers t octets =
     record {

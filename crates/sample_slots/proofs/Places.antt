@@ -101,13 +101,6 @@ length-more f front xs i x h e =
     ap (λ ys. length (front ++ flat_map f ys)) (take_more xs i x h ∙ ap (λ y. take i xs ++ y ∷ []) (sym e))
     ∙ (ap (λ (ys : List _). length ys) (sym (flat_map_more f front (take i xs) x)) ∙ length-append (front ++ flat_map f (take i xs)) (f x))
 
--- a sample of a simple parameter
-pub in_simple : (d : Definition) (last n : ℕ) → n < length d.simple → slice_get (places d last) n ≡ Some (record { param = get_or d.simple n 0; slot = last })
-in_simple d last n h =
-    ap (λ ps. slice_get ps n) (places_are d last)
-    ∙ (slice_get-append_left (slot_places last d.simple) (flat_map (array_places last d.interval) d.arrays) n (omega (arith, length-slot_places last d.simple, h))
-    ∙ slice_get-slot_places last d.simple n h)
-
 -- a sample of the arrays
 pub in_arrays : (d : Definition) (last n k : ℕ) → n ≡ length d.simple + k → slice_get (places d last) n ≡ slice_get (flat_map (array_places last d.interval) d.arrays) k
 in_arrays d last n k e =

@@ -1,5 +1,5 @@
 -- Reading value by value, and group by group.
-use Rattle.std.proofs.Common.{◌≡◌, ◌+◌, ◌-◌, ◌*◌, ◌/◌, ◌<◌, ◌≤◌, ℕ, zero, suc, ℤ, List, [], ◌∷◌, ◌++◌, length, take, drop, get_or, Bool, true, false, cond, nat_lt, not, Option, Some, None, Result, Ok, Err, refl, sym, ap, subst, ◌∙◌, arith, append_assoc, append-nil, zero-add}
+use Rattle.std.proofs.Common.{◌≡◌, ◌+◌, ◌-◌, ◌*◌, ◌/◌, ◌<◌, ℕ, zero, suc, ℤ, List, [], ◌∷◌, ◌++◌, length, take, drop, get_or, Bool, true, false, cond, nat_lt, not, Option, Some, None, Result, Ok, Err, refl, sym, ap, subst, ◌∙◌, arith, append_assoc, append-nil, zero-add}
 use Rattle.std.specs.Prelude.{◌==◌, zip, flat_map, filter_map, sum_by, position, is_some, IsTrue, option_map, if◌then◌else◌}
 use Rattle.std.specs.List.{cons_option, prefix_len, AllByRecursion}
 use Rattle.std.specs.Option.{option_or}
@@ -212,10 +212,6 @@ group-fails t old number g gs bits e h =
 pub repetitions-more : (ids : List ℕ) (spacing r i : ℕ) → i < r → repetitions ids spacing (r - i) ≡ record { lag = (r - (i + 1)) * spacing; params = ids } ∷ repetitions ids spacing (r - (i + 1))
 repetitions-more ids spacing r i h = let e : r - i ≡ suc (r - (i + 1)) = omega (arith, h) in ap (λ k. repetitions ids spacing k) e
 
--- none are left
-pub repetitions-end : (ids : List ℕ) (spacing r i : ℕ) → r ≤ i → repetitions ids spacing (r - i) ≡ []
-repetitions-end ids spacing r i h = let e : r - i ≡ 0 = omega (arith, h) in ap (λ k. repetitions ids spacing k) e
-
 -- the octets of the repetitions of an array
 pub sum-repetitions : (t : TailoringParts) (ids : List ℕ) (spacing r : ℕ) → sum_by (group_octets t) (repetitions ids spacing r) ≡ r * ids_octets t.params ids
 sum-repetitions t ids spacing zero = sym (zero-mul (ids_octets t.params ids))
@@ -266,7 +262,3 @@ pub payload-groups : (t : TailoringParts) (d : Definition) (octets : List ℕ) �
 payload-groups t d octets size =
     ap (λ b. unless_fault (if b then groups_fault t (groups d) 0 0 (bits_of octets) else Some (WrongSize (payload_size t d) (length octets))) (payload_values t (groups d) (bits_of octets))) size
     ∙ sym (onto-nothing (unless_fault (groups_fault t (groups d) 0 0 (bits_of octets)) (payload_values t (groups d) (bits_of octets))))
-
-pub payload-wrong_size : (t : TailoringParts) (d : Definition) (octets : List ℕ) → (payload_size t d == length octets) ≡ false → payload_read t d octets ≡ Err (WrongSize (payload_size t d) (length octets))
-payload-wrong_size t d octets size =
-    ap (λ b. unless_fault (if b then groups_fault t (groups d) 0 0 (bits_of octets) else Some (WrongSize (payload_size t d) (length octets))) (payload_values t (groups d) (bits_of octets))) size

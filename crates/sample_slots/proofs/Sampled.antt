@@ -11,7 +11,7 @@ use Rattle.hk_base.specs.declared.types.SuperList.{SuperList}
 use Rattle.hk_base.specs.declared.types.Definition.{Definition}
 use Rattle.hk_base.proofs.Membership.{AllByRecursion-parts}
 use Rattle.sample_slots.specs.Slots.{IsSampled, IsSampledArray}
-use Rattle.sample_slots.specs.Reading.{AreKnown, IsReadableArray}
+use Rattle.sample_slots.specs.Reading.{IsReadableArray}
 
 sampled_arrays : (t : TailoringParts) (n : ℕ) (arrays : List SuperList) → AllByRecursion (IsArray t n) arrays → AllByRecursion (IsSampledArray n) arrays
 sampled_arrays t n [] h = tt
@@ -51,6 +51,3 @@ pub readable : (t : TailoringParts) (d : Definition) → IsSampled d → IsWellF
 readable t d sampled formed =
     let parts = AllByRecursion-parts _ d.simple (flat_map (λ (x : SuperList). x.params) d.arrays) formed.known in
     All-from_recursion (IsReadableArray t) d.arrays (readable_arrays t d.interval d.arrays sampled.interval.0 sampled.interval.1 formed.arrays parts.1)
-
-pub known-simple : (t : TailoringParts) (d : Definition) → IsWellFormed t d → AreKnown t d.simple
-known-simple t d formed = All-from_recursion _ d.simple (AllByRecursion-parts _ d.simple (flat_map (λ (x : SuperList). x.params) d.arrays) formed.known).0

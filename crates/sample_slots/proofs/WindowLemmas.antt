@@ -1,10 +1,10 @@
 -- Samples in the order of their slots, and the search among them.
-use Rattle.std.proofs.Common.{◌≡◌, ℕ, zero, suc, ◌+◌, ◌-◌, ◌<◌, ◌≤◌, ℤ, List, [], ◌∷◌, ◌++◌, length, drop, Bool, true, false, cond, Option, Some, None, refl, sym, ap, subst, ◌∙◌, arith}
+use Rattle.std.proofs.Common.{◌≡◌, ℕ, zero, suc, ◌+◌, ◌-◌, ◌<◌, ◌≤◌, ℤ, List, [], ◌∷◌, ◌++◌, length, drop, Bool, true, false, cond, Some, None, refl, sym, ap, subst, ◌∙◌, arith}
 use Rattle.std.specs.Prelude.{nat_lt, find, option_map, ◌==◌, slice_get, IfSome}
 use Rattle.std.specs.List.{AllByRecursion}
 use Rattle.std.proofs.lemmas.Bool.{eq-eqb}
 use Rattle.std.proofs.lemmas.Bool.Decides.{nat_tests}
-use Rattle.std.proofs.lemmas.Option.{same_Some, slice_get_within, none-some}
+use Rattle.std.proofs.lemmas.Option.{same_Some, none-some}
 use Rattle.circular_buffer.specs.Buffer.{last_item}
 use Rattle.hk_base.proofs.Membership.{AllByRecursion-append}
 use Rattle.sample_slots.specs.Windows.{AreRising, sample_at}
@@ -54,14 +54,6 @@ pub record IsBetween (ss : List (ℕ × ℤ)) (slot low high : ℕ) : Type 0 whe
   pub end : high ≤ length ss
   pub before : (k : ℕ) (s : ℕ × ℤ) → k < low → slice_get ss k ≡ Some s → s.0 < slot
   pub after : (k : ℕ) (s : ℕ × ℤ) → high ≤ k → slice_get ss k ≡ Some s → slot < s.0
-
-pub between-start : (ss : List (ℕ × ℤ)) (slot n : ℕ) → n ≡ length ss → IsBetween ss slot 0 n
-between-start ss slot n size = record {
-  order = omega arith;
-  end = omega (arith, size);
-  before = λ k s h e. absurd (omega (arith, h));
-  after = λ k s h e. absurd (let within : k < length ss = slice_get_within ss k s e in omega (arith, within, h, size));
-}
 
 pub between-up : (ss : List (ℕ × ℤ)) (slot low high middle : ℕ) (found : ℕ × ℤ) → AreRising ss → IsBetween ss slot low high → middle < high → slice_get ss middle ≡ Some found → found.0 < slot → IsBetween ss slot (middle + 1) high
 between-up ss slot low high middle found rising is h at below = record {

@@ -1,6 +1,6 @@
 ghost use Rattle.std.specs.Prelude.{◌≤◌, length};
 
-use crate::{PayloadFault, Place, place, place_count, read_payload, size};
+use crate::{PayloadFault, Place, Window, place, place_count, read_payload, size};
 use hk_base::{Key, Kind, Tailoring, Value, builtin};
 use std::alloc::Global;
 use std::process::Abort;
@@ -49,6 +49,25 @@ fn payloads_are_read(rt: HostRuntime) -> Result<(), Fail> {
     ];
     for (key, bytes, expected) in cases {
         check(&rt, alloc, &tailoring, key, bytes, expected)?;
+    }
+    Ok(())
+}
+
+#[test]
+fn windows_keep_the_latest(rt: HostRuntime) -> Result<(), Fail> {
+    let mut window = Window::new(rt.alloc(), 2)?;
+    window.push(1, 10);
+    window.push(3, 30);
+    window.push(4, 40);
+    for (slot, value) in [
+        (0, None),
+        (1, None),
+        (2, None),
+        (3, Some(30)),
+        (4, Some(40)),
+        (5, None),
+    ] {
+        assert_eq!(rt; window.at(slot), value);
     }
     Ok(())
 }

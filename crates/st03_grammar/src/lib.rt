@@ -1,0 +1,12 @@
+//! The bodies of housekeeping requests and reports (ECSS-E-ST-70-41C, service 3), read and written.
+#![tactic(auto)]
+
+mod bodies;
+mod fields;
+mod lists;
+mod reports;
+mod requests;
+
+pub use bodies::{Added, Change, Each, Pair, PeriodicRow, Report03, Request03};
+pub use reports::{decode_report, knows_report};
+pub use requests::{decode_request, knows_request};

@@ -1,3 +1,4 @@
 pub mod KeyLemmas
 pub mod SpellingLemmas
 pub mod Repeats
+pub mod Fitting

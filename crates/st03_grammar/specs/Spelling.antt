@@ -1,5 +1,5 @@
 -- The spelling of housekeeping requests and reports.
-use Rattle.std.specs.Prelude.{◌≡◌, ℕ, ◌^◌, ◌<◌, ⊤, List, [], ◌∷◌, ◌++◌, length, map, flat_map, Bool, true, false, Option, Some, None}
+use Rattle.std.specs.Prelude.{◌≡◌, ℕ, ◌^◌, ◌<◌, ◌≤◌, ⊤, List, [], ◌∷◌, ◌++◌, length, map, flat_map, Bool, true, false, Option, Some, None}
 use Rattle.std.specs.List.{AllByRecursion}
 use Rattle.hk_base.specs.TailoringParts.{TailoringParts}
 use Rattle.hk_base.specs.Fields.{octets_of}
@@ -121,3 +121,40 @@ IsReport03 t (told.Structure key s) =
 IsReport03 t (told.Values key payload) = key.id < 256 ^ t.widths.structure_octets
 IsReport03 t (told.Periodic kind rows) =
     IsCount t 1 (length rows) × AreStructures t (map (λ r. r.id) rows) × AllByRecursion (λ r. IsInterval t r.interval) rows
+
+-- a pair that its fields can hold
+abbrev pub PairFits : TailoringParts → Pair → Type 0
+PairFits t p = (p.id < 256 ^ t.widths.structure_octets) × (p.interval < 256 ^ t.widths.interval_octets)
+
+-- a row that its fields can hold
+abbrev pub RowFits : TailoringParts → PeriodicRow → Type 0
+RowFits t r = (r.id < 256 ^ t.widths.structure_octets) × (r.interval < 256 ^ t.widths.interval_octets)
+
+-- parameters that a counted list can hold
+abbrev pub ParamsFit : TailoringParts → List ℕ → Type 0
+ParamsFit t ids = (length ids ≤ 255) × (length ids < 256 ^ t.widths.count_octets) × AllFit t.widths.parameter_octets ids
+
+-- an array that its fields can hold
+abbrev pub ArrayFits : TailoringParts → SuperList → Type 0
+ArrayFits t a = (a.repetition < 256 ^ t.widths.repetition_octets) × ParamsFit t a.params
+
+-- LISTS that their fields can hold
+pub record ListsFit (t : TailoringParts) (simple : List ℕ) (arrays : List SuperList) : Type 0 where
+  pub params : ParamsFit t simple
+  pub few_arrays : length arrays ≤ 255
+  pub array_count : length arrays < 256 ^ t.widths.count_octets
+  pub each_array : AllByRecursion (ArrayFits t) arrays
+
+-- a request that its fields can hold
+abbrev pub RequestFits : TailoringParts → Request03 → Type 0
+RequestFits t (Create key d) = (key.id < 256 ^ t.widths.structure_octets) × (d.interval < 256 ^ t.widths.interval_octets) × ListsFit t d.simple d.arrays
+RequestFits t (Append key a) = (key.id < 256 ^ t.widths.structure_octets) × ListsFit t a.simple a.arrays
+RequestFits t (OnEach each kind ids) = (length ids ≤ 255) × (length ids < 256 ^ t.widths.count_octets) × AllFit t.widths.structure_octets ids
+RequestFits t (Intervals kind pairs) = (length pairs ≤ 255) × (length pairs < 256 ^ t.widths.count_octets) × AllByRecursion (PairFits t) pairs
+
+-- a report that its fields can hold
+abbrev pub ReportFits : TailoringParts → Report03 → Type 0
+ReportFits t (told.Structure key s) =
+    (key.id < 256 ^ t.widths.structure_octets) × (s.def.interval < 256 ^ t.widths.interval_octets) × ListsFit t s.def.simple s.def.arrays
+ReportFits t (told.Values key payload) = key.id < 256 ^ t.widths.structure_octets
+ReportFits t (told.Periodic kind rows) = (length rows ≤ 255) × (length rows < 256 ^ t.widths.count_octets) × AllByRecursion (RowFits t) rows

@@ -6,7 +6,10 @@ mod fields;
 mod lists;
 mod reports;
 mod requests;
+mod subtypes;
+mod writing;
 
 pub use bodies::{Added, Change, Each, Pair, PeriodicRow, Report03, Request03};
 pub use reports::{decode_report, knows_report};
 pub use requests::{decode_request, knows_request};
+pub use writing::{encode_report, encode_request};

@@ -2,3 +2,4 @@ pub mod KeyLemmas
 pub mod SpellingLemmas
 pub mod Repeats
 pub mod Fitting
+pub mod Places

@@ -3,6 +3,7 @@
 
 mod bodies;
 mod fields;
+mod instructions;
 mod lists;
 mod reports;
 mod requests;

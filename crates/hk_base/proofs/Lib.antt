@@ -15,3 +15,4 @@ pub mod RoomLemmas
 pub mod RowLemmas
 pub mod ListReading
 pub mod Writing
+pub mod TakingLemmas

@@ -70,3 +70,12 @@ abbrev pub IsInOctets : Form → ℕ → ℤ → Type 0
 IsInOctets Signed octets v = FitsSignedOctets octets v
 IsInOctets _ octets (pos n) = n < 256 ^ octets
 IsInOctets _ octets (negsuc n) = ⊥
+
+-- numbers that octets can be
+abbrev pub AreOctets : List ℕ → Type 0
+AreOctets octets = AllByRecursion (λ octet. octet < 256) octets
+
+-- each member of a list is so among those before it, the newest first
+abbrev pub AllAmong : {A : Type 0} → (List A → A → Type 0) → List A → List A → Type 0
+AllAmong P earlier [] = ⊤
+AllAmong P earlier (x ∷ xs) = P earlier x × AllAmong P (x ∷ earlier) xs

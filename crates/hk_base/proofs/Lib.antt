@@ -16,3 +16,5 @@ pub mod RowLemmas
 pub mod ListReading
 pub mod Writing
 pub mod TakingLemmas
+pub mod FitLemmas
+pub mod NamedLemmas

@@ -1,16 +1,16 @@
 -- What is read stood at the front of the octets, in its one spelling.
 use Rattle.std.proofs.Common.{arith, ◌≡◌, refl, sym, ap, subst, ◌∙◌, ℕ, zero, suc, ◌+◌, ◌-◌, ◌*◌, ◌/◌, ◌%◌, ◌^◌, ◌<◌, ◌≤◌, List, [], ◌∷◌, ◌++◌, length, take, drop, append-nil, append_assoc, take-append-drop, Bool, true, false, cond, Option, Some, None, Result, Ok, Err, ℤ, pos, negsuc}
-use Rattle.std.specs.Prelude.{◌==◌, ⊤, nat_lt, flat_map, not, if◌then◌else◌}
+use Rattle.std.specs.Prelude.{◌==◌, ⊤, nat_lt, flat_map, find, option_map, if◌then◌else◌}
 use Rattle.std.specs.List.{AllByRecursion}
 use Rattle.std.specs.Option.{option_or}
 use Rattle.std.proofs.Math.Nat.{mod-eq_of_lt, pow-suc, pow-zero}
 use Rattle.std.proofs.lemmas.Nat.{div-mul-add, mul-add-lt}
 use Rattle.std.proofs.lemmas.List.{length-take-le}
-use Rattle.std.proofs.lemmas.Bool.Decides.{nat_tests}
-use Rattle.std.proofs.lemmas.Option.{none-some}
+use Rattle.std.proofs.lemmas.Bool.Decides.{nat_tests, Decides-eqb}
+use Rattle.std.proofs.lemmas.Option.{none-some, same_Some}
 use Rattle.hk_base.specs.TailoringParts.{TailoringParts}
 use Rattle.hk_base.specs.Fields.{digits, number, octets_of, number_of, twos_complement, signed_of, signed_octets_of, signed_number_of}
-use Rattle.hk_base.specs.Reading.{Read, then_read, with_check, fault_if, whole_body, octets_field, uint, list_of, count_fault, count_field, counted_list, flag_field, form_number}
+use Rattle.hk_base.specs.Reading.{Read, then_read, with_check, fault_if, whole_body, octets_field, uint, list_of, count_fault, count_field, counted_list, flag_field, form_number, body_of}
 use Rattle.hk_base.specs.Spelling.{AreOctets, AllAmong, IsCount, IsInOctets, counted_octets, flag_octets}
 use Rattle.hk_base.specs.declared.types.BodyFault.{BodyFault}
 use Rattle.hk_base.specs.declared.types.BodyFault.TheVariants.{Short, Status, ZeroCount, TooMany}
@@ -116,7 +116,7 @@ took-uint places octets are =
     (λ field text h. (h.0 ∙ sym (octets-number-in places field h.1 h.2), number-below-in places field h.1 h.2))
 
 -- a flag
-no_fault : (b : Bool) (fault : BodyFault) → fault_if b fault ≡ None → b ≡ false
+pub no_fault : (b : Bool) (fault : BodyFault) → fault_if b fault ≡ None → b ≡ false
 no_fault false fault e = refl
 no_fault true fault e = absurd (none-some fault (sym e))
 
@@ -215,3 +215,21 @@ whole-took {A} P octets (Ok y) x h e = go y.1 h.1 e
     go : (rest : List ℕ) → octets ≡ h.0 ++ rest → whole_body (Ok (y.0, rest)) ≡ Ok x → P x octets
     go [] parts same = subst (λ z. P z octets) (ok_is y.0 x same) (subst (P y.0) (sym (parts ∙ append-nil h.0)) h.2)
     go (o ∷ rest) parts same = absurd cc
+
+-- what holds of each reader of a table, by its subtype, holds of what a body is read as
+pub body-took : {A : Type 0} (P : ℕ → A → List ℕ → Type 0) (table : List (ℕ × (List ℕ → Read A))) (subtype : ℕ) (octets : List ℕ) (x : A)
+    → AreOctets octets
+    → AllByRecursion (λ row. (os : List ℕ) → AreOctets os → Took (P row.0) os (row.1 os)) table
+    → body_of table subtype octets ≡ Some (Ok x)
+    → P subtype x octets
+body-took P [] subtype octets x are all e = absurd (none-some (Ok x) e)
+body-took {A} P (row ∷ table) subtype octets x are all e = go (row.0 == subtype) refl (λ later. body-took P table subtype octets x are all.1 later) e
+  where
+    go : (b : Bool) → row.0 == subtype ≡ b
+        → (body_of table subtype octets ≡ Some (Ok x) → P subtype x octets)
+        → option_map (λ read. whole_body (read octets)) (option_map (λ (r : ℕ × (List ℕ → Read A)). r.1) (if b then Some row else find (λ r. r.0 == subtype) table)) ≡ Some (Ok x)
+        → P subtype x octets
+    go true same later h =
+        subst (λ s. P s x octets) ((Decides-eqb row.0 subtype).0 same)
+        (whole-took (P row.0) octets (row.1 octets) x (all.0 octets are) (same_Some (whole_body (row.1 octets)) (Ok x) h))
+    go false same later h = later h

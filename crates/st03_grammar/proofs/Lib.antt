@@ -3,3 +3,5 @@ pub mod SpellingLemmas
 pub mod Repeats
 pub mod Fitting
 pub mod Places
+pub mod TakenFields
+pub mod TakenBodies

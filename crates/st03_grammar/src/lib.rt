@@ -4,6 +4,7 @@
 mod bodies;
 mod fields;
 mod instructions;
+mod laws;
 mod lists;
 mod reports;
 mod requests;
@@ -11,6 +12,7 @@ mod subtypes;
 mod writing;
 
 pub use bodies::{Added, Change, Each, Pair, PeriodicRow, Report03, Request03};
+pub use laws::{reports_are_spelled, requests_are_spelled};
 pub use reports::{decode_report, knows_report};
 pub use requests::{decode_request, knows_request};
 pub use writing::{encode_report, encode_request};

@@ -5,3 +5,4 @@ pub mod Fitting
 pub mod Places
 pub mod TakenFields
 pub mod TakenBodies
+pub mod Apart

@@ -1,7 +1,7 @@
-ghost use Rattle.std.specs.Prelude.{◌≡◌, ◌≤◌, ◌<◌, ◌^◌, ◌∷◌, [], length, position, slice_get, option_map, IfSome};
+ghost use Rattle.std.specs.Prelude.{◌≡◌, ◌≤◌, ◌<◌, ◌^◌, ◌∷◌, [], length, position, slice_get, option_map, IfSome, ℕ, Some};
 ghost use Rattle.hk_base.specs.Parameters.{key_eq};
 ghost use Rattle.st03_grammar.specs.Instructions as instructions;
-ghost use Rattle.st03_grammar.specs.Instructions.{change_of, keyed_change, numbered_change, key_of, structure_changes, instruction_at, instruction_on};
+ghost use Rattle.st03_grammar.specs.Instructions.{change_of, keyed_change, numbered_change, key_of, StructureChange, structure_changes, instruction_at, instruction_on, AreKeysApart};
 
 use crate::bodies::{Change, Pair, Request03};
 use hk_base::{Items, Key, Kind};
@@ -29,8 +29,17 @@ impl Request03 {
         self.instruction(number as usize - 1)
     }
 
-    /// The instruction on this structure, with its number from 1.
+    /// The instruction on this structure, with its number from 1: the first one, where a request names a structure twice.
     pub fn on_key(&self, key: Key) -> Option<(u32, Change<'_>)>
+        requires { length (structure_changes self.now) ≤ 2 ^ 31 }
+        ensures first { option_map numbered_change result ≡ instruction_on self.now key }
+        ensures only { (n : ℕ) (change : StructureChange) → AreKeysApart self.now → instruction_at self.now n ≡ Some (key, change) → option_map numbered_change result ≡ Some (n, change) }
+    {
+        self.first_on(key)
+    }
+
+    /// The first instruction on this structure, with its number from 1.
+    fn first_on(&self, key: Key) -> Option<(u32, Change<'_>)>
         requires { length (structure_changes self.now) ≤ 2 ^ 31 }
         ensures { option_map numbered_change result ≡ instruction_on self.now key }
     {

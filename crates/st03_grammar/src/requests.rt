@@ -2,6 +2,7 @@ ghost use Rattle.std.specs.Prelude.{◌≡◌, ◌≤◌, ◌^◌, true, length,
 ghost use Rattle.hk_base.specs.TailoringParts.{TailoringParts};
 ghost use Rattle.hk_base.specs.Outcomes.{Gives};
 ghost use Rattle.hk_base.specs.Reading.{reader};
+ghost use Rattle.st03_grammar.specs.Instructions.{AreKeysApart};
 ghost use Rattle.st03_grammar.specs.Bodies.{creation, appending, on_each, intervals, request_table, request_body};
 
 use crate::bodies::{Each, Request03};
@@ -83,8 +84,8 @@ pub fn knows_request(subtype: u8) -> bool
     matches!(subtype, 1..=9 | 11 | 27..=34)
 }
 
-/// The request that a body is. Its first field that can't stand is the fault.
-pub fn decode_request(
+/// What the fields of a body are read as, up to its end.
+fn read_body(
     alloc: Global,
     tailoring: &Tailoring,
     subtype: u8,
@@ -118,4 +119,19 @@ pub fn decode_request(
         _ => unreachable!(),
     };
     whole(read)
+}
+
+/// The request that a body is, or the fault of the first field that can't stand. It names no structure twice.
+pub fn decode_request(
+    alloc: Global,
+    tailoring: &Tailoring,
+    subtype: u8,
+    body: &[u8],
+) -> Result<Request03, BodyFault>
+    requires known { is_some (reader (request_table tailoring.now) subtype) ≡ true }
+    requires size { length body.now ≤ 2 ^ 31 }
+    ensures gives { IfSome (request_body tailoring.now subtype body.now) (λ given. Gives (λ request. request) result given) }
+    ensures apart { IfOk result (λ request. AreKeysApart request) }
+{
+    read_body(alloc, tailoring, subtype, body)
 }

@@ -18,3 +18,4 @@ pub mod Writing
 pub mod TakingLemmas
 pub mod FitLemmas
 pub mod NamedLemmas
+pub mod BodyLemmas

@@ -7,7 +7,7 @@ use Rattle.hk_base.specs.declared.types.Kind.{Kind}
 use Rattle.hk_base.specs.declared.types.Kind.TheVariants.{Housekeeping, Diagnostic}
 use Rattle.hk_base.proofs.TakingLemmas.{Took, took-then, took-map, took-flag, took-counted, body-took}
 use Rattle.st03_grammar.specs.Bodies.{key_field, lists_field, structure_field, definition_of, creation, appending, on_each, pair_field, intervals, request_table, request_body, structure_report, parameter_report, row_field, periodic_report, report_table, report_body}
-use Rattle.st03_grammar.specs.Spelling.{by_kind, each_subtype, request_subtype, report_subtype, lists_octets, pair_octets, row_octets, request_octets, report_octets, AreStructures, AreLists, IsRequest03, IsReport03}
+use Rattle.st03_grammar.specs.Spelling.{by_kind, each_subtype, request_subtype, report_subtype, lists_octets, pair_octets, row_octets, request_octets, report_octets, AreStructures, AreLists, IsSpelledRequest, IsSpelledReport}
 use Rattle.st03_grammar.specs.declared.bodies.Each.{Each}
 use Rattle.st03_grammar.specs.declared.bodies.Each.TheVariants.{Delete, Enable, Disable, Show, OneShot, ShowPeriodic}
 use Rattle.st03_grammar.specs.declared.bodies.Request03.{Request03}
@@ -15,10 +15,6 @@ use Rattle.st03_grammar.specs.declared.bodies.Request03.TheVariants.{Create, App
 use Rattle.st03_grammar.specs.declared.bodies.Report03.{Report03}
 use Rattle.st03_grammar.specs.declared.bodies.Report03.TheVariants as told
 use Rattle.st03_grammar.proofs.TakenFields.{joined, IsSpelledKey, IsSpelledInterval, PairStands, RowStands, took-key, took-interval, took-lists, took-structures, took-pair, pairs_among, took-row, rows_among}
-
--- a request under a subtype, in its spelling
-abbrev pub IsSpelledRequest : TailoringParts → ℕ → Request03 → List ℕ → Type 0
-IsSpelledRequest t subtype r text = (subtype ≡ request_subtype r) × (text ≡ request_octets t r) × IsRequest03 t r
 
 took-creation : (t : TailoringParts) (kind : Kind) (octets : List ℕ) → AreOctets octets → Took (IsSpelledRequest t (by_kind kind 1 2)) octets (creation t kind octets)
 took-creation t kind octets are =
@@ -77,10 +73,6 @@ request-took t subtype octets r are e =
     body-took (IsSpelledRequest t) (request_table t) subtype octets r are
     (took-creation t Housekeeping, (took-creation t Diagnostic, (took-each t Delete Housekeeping, (took-each t Delete Diagnostic, (took-each t Enable Housekeeping, (took-each t Disable Housekeeping, (took-each t Enable Diagnostic, (took-each t Disable Diagnostic, (took-each t Show Housekeeping, (took-each t Show Diagnostic, (took-each t OneShot Housekeeping, (took-each t OneShot Diagnostic, (took-appending t Housekeeping, (took-appending t Diagnostic, (took-intervals t Housekeeping, (took-intervals t Diagnostic, (took-each t ShowPeriodic Housekeeping, (took-each t ShowPeriodic Diagnostic, tt))))))))))))))))))
     e
-
--- a report under a subtype, in its spelling
-abbrev pub IsSpelledReport : TailoringParts → ℕ → Report03 → List ℕ → Type 0
-IsSpelledReport t subtype r text = (subtype ≡ report_subtype r) × (text ≡ report_octets t r) × IsReport03 t r
 
 took-structure_report : (t : TailoringParts) (kind : Kind) (octets : List ℕ) → AreOctets octets → Took (IsSpelledReport t (by_kind kind 10 12)) octets (structure_report t kind octets)
 took-structure_report t kind octets are =

@@ -122,6 +122,14 @@ IsReport03 t (told.Values key payload) = key.id < 256 ^ t.widths.structure_octet
 IsReport03 t (told.Periodic kind rows) =
     IsCount t 1 (length rows) × AreStructures t (map (λ r. r.id) rows) × AllByRecursion (λ r. IsInterval t r.interval) rows
 
+-- a request of the grammar under its subtype, in its spelling
+abbrev pub IsSpelledRequest : TailoringParts → ℕ → Request03 → List ℕ → Type 0
+IsSpelledRequest t subtype r octets = (subtype ≡ request_subtype r) × (octets ≡ request_octets t r) × IsRequest03 t r
+
+-- a report of the grammar under its subtype, in its spelling
+abbrev pub IsSpelledReport : TailoringParts → ℕ → Report03 → List ℕ → Type 0
+IsSpelledReport t subtype r octets = (subtype ≡ report_subtype r) × (octets ≡ report_octets t r) × IsReport03 t r
+
 -- a pair that its fields can hold
 abbrev pub PairFits : TailoringParts → Pair → Type 0
 PairFits t p = (p.id < 256 ^ t.widths.structure_octets) × (p.interval < 256 ^ t.widths.interval_octets)

@@ -2,6 +2,7 @@ ghost use Rattle.std.specs.Prelude.{◌≡◌, ◌≤◌, ◌^◌, true, length,
 ghost use Rattle.hk_base.specs.TailoringParts.{TailoringParts};
 ghost use Rattle.hk_base.specs.Outcomes.{Gives};
 ghost use Rattle.hk_base.specs.Reading.{reader};
+ghost use Rattle.st03_grammar.specs.Spelling.{IsSpelledReport};
 ghost use Rattle.st03_grammar.specs.Bodies.{structure_report, parameter_report, periodic_report, report_table, report_body};
 
 use crate::bodies::Report03;
@@ -69,8 +70,8 @@ pub fn knows_report(subtype: u8) -> bool
     matches!(subtype, 10 | 12 | 25 | 26 | 35 | 36)
 }
 
-/// The report that a body is. Its first field that can't stand is the fault.
-pub fn decode_report(
+/// What the fields of a body are read as, up to its end.
+fn read_body(
     alloc: Global,
     tailoring: &Tailoring,
     subtype: u8,
@@ -90,4 +91,19 @@ pub fn decode_report(
         _ => unreachable!(),
     };
     whole(read)
+}
+
+/// The report that a body is, or the fault of the first field that can't stand.
+pub fn decode_report(
+    alloc: Global,
+    tailoring: &Tailoring,
+    subtype: u8,
+    body: &[u8],
+) -> Result<Report03, BodyFault>
+    requires known { is_some (reader (report_table tailoring.now) subtype) ≡ true }
+    requires size { length body.now ≤ 2 ^ 31 }
+    ensures gives { IfSome (report_body tailoring.now subtype body.now) (λ given. Gives (λ report. report) result given) }
+    ensures found { IfOk result (λ report. IsSpelledReport tailoring.now subtype report body.now) }
+{
+    read_body(alloc, tailoring, subtype, body)
 }

@@ -13,14 +13,10 @@ use Rattle.hk_base.specs.declared.types.RequestId.{RequestId}
 use Rattle.hk_base.specs.declared.types.BodyFault.TheVariants.{ZeroCount, RepeatedKey}
 use Rattle.hk_base.proofs.TakingLemmas.{Took, IsSpelled, took-then, took-map, took-check, took-weaken, took-uint, took-counted, body-took}
 use Rattle.st01_reports.specs.Bodies.{request_field, cause_field, step_fault, step_field, on_request, with_cause, step_report, step_failure, incompletion, report_table, report_body}
-use Rattle.st01_reports.specs.Spelling.{id_octets, cause_octets, step_octets, subtype, verification_octets, IsRequestId, IsCause, AreRising, IsVerification}
+use Rattle.st01_reports.specs.Spelling.{id_octets, cause_octets, step_octets, subtype, verification_octets, IsRequestId, IsCause, AreRising, IsSpelledReport}
 use Rattle.st01_reports.specs.declared.verification.Cause.{Cause}
 use Rattle.st01_reports.specs.declared.verification.Verification.{Verification}
 use Rattle.st01_reports.specs.declared.verification.Verification.TheVariants.{Accepted, Refused, Started, NotStarted, Step, StepFailed, Completed, Incomplete, NotRouted}
-
--- a report under a subtype, in its spelling
-abbrev pub IsSpelledReport : TailoringParts → ℕ → Verification → List ℕ → Type 0
-IsSpelledReport t number v text = (number ≡ subtype v) × (text ≡ verification_octets t v) × IsVerification t v
 
 -- two parts in their spelling
 joined : (text more first second : List ℕ) → text ≡ first → more ≡ second → text ++ more ≡ first ++ second
@@ -149,15 +145,32 @@ took-incompletion t octets are =
 -- a report is read from its spelling alone
 pub report-took : (t : TailoringParts) (number : ℕ) (octets : List ℕ) (v : Verification) → AreOctets octets → report_body t number octets ≡ Some (Ok v) → IsSpelledReport t number v octets
 report-took t number octets v are e =
-    body-took (IsSpelledReport t) (report_table t) number octets v are
-    (took-on_request t 1 Accepted (λ id text h. (refl, h.0, h.1)),
-    (took-with_cause t 2 Refused (λ id c text parts is fits. (refl, parts, (is, fits))),
-    (took-on_request t 3 Started (λ id text h. (refl, h.0, h.1)),
-    (took-with_cause t 4 NotStarted (λ id c text parts is fits. (refl, parts, (is, fits))),
-    (took-step_report t,
-    (took-step_failure t,
-    (took-on_request t 7 Completed (λ id text h. (refl, h.0, h.1)),
-    (took-incompletion t,
-    (took-with_cause t 10 NotRouted (λ id c text parts is fits. (refl, parts, (is, fits))),
-    tt)))))))))
+    body-took (IsSpelledReport t) (report_table t) number octets v are (
+      took-on_request t 1 Accepted (λ id text h. (refl, h.0, h.1)),
+      (
+        took-with_cause t 2 Refused (λ id c text parts is fits. (refl, parts, (is, fits))),
+        (
+          took-on_request t 3 Started (λ id text h. (refl, h.0, h.1)),
+          (
+            took-with_cause t 4 NotStarted (λ id c text parts is fits. (refl, parts, (is, fits))),
+            (
+              took-step_report t,
+              (
+                took-step_failure t,
+                (
+                  took-on_request t 7 Completed (λ id text h. (refl, h.0, h.1)),
+                  (
+                    took-incompletion t,
+                    (
+                      took-with_cause t 10 NotRouted (λ id c text parts is fits. (refl, parts, (is, fits))),
+                      tt,
+                    ),
+                  ),
+                ),
+              ),
+            ),
+          ),
+        ),
+      ),
+    )
     e

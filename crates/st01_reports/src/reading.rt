@@ -2,6 +2,7 @@ ghost use Rattle.std.specs.Prelude.{◌≡◌, ◌≤◌, ◌<◌, ◌^◌, true
 ghost use Rattle.hk_base.specs.TailoringParts.{TailoringParts};
 ghost use Rattle.hk_base.specs.Outcomes.{Gives, Finds};
 ghost use Rattle.hk_base.specs.Reading.{reader, uint};
+ghost use Rattle.st01_reports.specs.Spelling.{IsSpelledReport};
 ghost use Rattle.st01_reports.specs.Stages.{success_report, failure_report};
 ghost use Rattle.st01_reports.specs.Bodies.{request_field, cause_field, rising_fault, step_field, on_request, with_cause, step_report, step_failure, incompletion, report_table, report_body};
 
@@ -160,8 +161,8 @@ pub fn knows(subtype: u8) -> bool
     matches!(subtype, 1..=8 | 10)
 }
 
-/// The report that a body is. Its first field that can't stand is the fault.
-pub fn decode(
+/// What the fields of a body are read as, up to its end.
+fn read_body(
     alloc: Global,
     tailoring: &Tailoring,
     subtype: u8,
@@ -184,4 +185,19 @@ pub fn decode(
         _ => unreachable!(),
     };
     whole(read)
+}
+
+/// The report that a body is, or the fault of the first field that can't stand.
+pub fn decode(
+    alloc: Global,
+    tailoring: &Tailoring,
+    subtype: u8,
+    body: &[u8],
+) -> Result<Verification, BodyFault>
+    requires known { is_some (reader (report_table tailoring.now) subtype) ≡ true }
+    requires size { length body.now ≤ 2 ^ 31 }
+    ensures gives { IfSome (report_body tailoring.now subtype body.now) (λ given. Gives (λ report. report) result given) }
+    ensures found { IfOk result (λ report. IsSpelledReport tailoring.now subtype report body.now) }
+{
+    read_body(alloc, tailoring, subtype, body)
 }

@@ -83,11 +83,7 @@ fn write_failure(id: RequestId, cause: Cause, out: &mut Vec<u8>) -> Result<(), M
 }
 
 /// Appends a count and so many steps.
-fn write_steps(
-    tailoring: &Tailoring,
-    steps: &Items<u32>,
-    out: &mut Vec<u8>,
-) -> Result<(), Memory>
+fn write_steps(tailoring: &Tailoring, steps: &Items<u32>, out: &mut Vec<u8>) -> Result<(), Memory>
     requires few { length steps.now ≤ 255 }
     requires count { length steps.now < 256 ^ tailoring.now.widths.count_octets }
     requires fit { AllFit tailoring.now.widths.step_octets steps.now }
@@ -97,11 +93,7 @@ fn write_steps(
 }
 
 /// Appends the fields of a report.
-fn write_report(
-    tailoring: &Tailoring,
-    v: &Verification,
-    out: &mut Vec<u8>,
-) -> Result<(), Memory>
+fn write_report(tailoring: &Tailoring, v: &Verification, out: &mut Vec<u8>) -> Result<(), Memory>
     requires { VerificationFits tailoring.now v.now }
     ensures { Appends out.old.items result out.new.items (verification_octets tailoring.now v.now) }
 {
@@ -137,11 +129,7 @@ fn write_report(
 }
 
 /// Appends the body of a report.
-pub fn encode(
-    tailoring: &Tailoring,
-    v: &Verification,
-    out: &mut Vec<u8>,
-) -> Result<(), Memory>
+pub fn encode(tailoring: &Tailoring, v: &Verification, out: &mut Vec<u8>) -> Result<(), Memory>
     requires { IsVerification tailoring.now v.now }
     ensures ok { OnOk result (out.new.items ≡ out.old.items ++ verification_octets tailoring.now v.now) }
     ensures err { OnErr result (out.new.items ≡ out.old.items) }

@@ -1,9 +1,11 @@
 -- What is of the grammar has room in its fields.
-use Rattle.std.proofs.Common.{◌≡◌, ℕ, ◌^◌, ◌<◌, ◌≤◌, List, [], ◌∷◌, length, map, Bool, Option, Some, None}
+use Rattle.std.proofs.Common.{arith, ◌≡◌, ℕ, ◌^◌, ◌<◌, ◌≤◌, List, [], ◌∷◌, length, map, Bool, Option, Some, None}
 use Rattle.std.specs.List.{AllByRecursion}
 use Rattle.hk_base.specs.TailoringParts.{TailoringParts}
 use Rattle.hk_base.specs.Spelling.{AllFit}
 use Rattle.hk_base.specs.declared.types.SuperList.{SuperList}
+use Rattle.std.proofs.lemmas.List.{length-map}
+use Rattle.st03_grammar.specs.Instructions.{structure_changes}
 use Rattle.st03_grammar.specs.Spelling.{PairFits, RowFits, ParamsFit, ArrayFits, ListsFit, RequestFits, ReportFits, IsInterval, IsArray, AreArrays, AreLists, IsRequest03, IsReport03}
 use Rattle.st03_grammar.specs.declared.bodies.Pair.{Pair}
 use Rattle.st03_grammar.specs.declared.bodies.PeriodicRow.{PeriodicRow}
@@ -48,3 +50,10 @@ pub report_fits : (t : TailoringParts) (r : Report03) → IsReport03 t r → Rep
 report_fits t (told.Structure key s) is = (is.0, is.1.1, lists_fit t _ _ s.def.simple s.def.arrays is.2)
 report_fits t (told.Values key payload) is = is
 report_fits t (told.Periodic kind rows) is = (is.0.1, is.0.2, rows_fit t rows is.1.1 is.2)
+
+-- a request of the grammar has at most 255 instructions
+pub few_instructions : (t : TailoringParts) (r : Request03) → IsRequest03 t r → length (structure_changes r) ≤ 255
+few_instructions t (Create key d) is = omega arith
+few_instructions t (Append key a) is = omega arith
+few_instructions t (OnEach each kind ids) is = rw (length-map) is.0.1
+few_instructions t (Intervals kind pairs) is = rw (length-map) is.0.1

@@ -77,11 +77,7 @@ impl Request03 {
     {
         match self {
             Request03::Create(own, _) | Request03::Append(own, _) => {
-                if is_same(*own, key) {
-                    Some(0)
-                } else {
-                    None
-                }
+                if is_same(*own, key) { Some(0) } else { None }
             }
             Request03::OnEach(_, kind, ids) => place_of_id(*kind, ids, key),
             Request03::Intervals(kind, pairs) => place_of_pair(*kind, pairs, key),

@@ -16,3 +16,6 @@ pub use laws::{reports_are_spelled, requests_are_spelled};
 pub use reports::{decode_report, knows_report};
 pub use requests::{decode_request, knows_request};
 pub use writing::{encode_report, encode_request};
+
+#[cfg(test)]
+mod tests;

@@ -139,8 +139,7 @@ impl ReadMember for Arrays<'_> {
         earlier: &[SuperList],
         octets: &'a [u8],
     ) -> Result<(SuperList, &'a [u8]), BodyFault> {
-        let (repetition, rest) =
-            read_number(octets, self.tailoring.widths().repetition_octets)?;
+        let (repetition, rest) = read_number(octets, self.tailoring.widths().repetition_octets)?;
         check_repetition(self.interval, repetition)?;
         let member = ArrayParams {
             tailoring: self.tailoring,
@@ -164,7 +163,13 @@ pub fn read_lists<'a>(
     ensures gives { Gives (λ x. (x.0, x.1.now)) result (lists_field tailoring.now once interval octets.now) }
     ensures left { IfOk result (λ x. length x.1.now ≤ length octets.now) }
 {
-    let (simple, rest) = read_list(alloc, tailoring, 0, &SimpleParams { tailoring, once }, octets)?;
+    let (simple, rest) = read_list(
+        alloc,
+        tailoring,
+        0,
+        &SimpleParams { tailoring, once },
+        octets,
+    )?;
     let member = Arrays {
         alloc,
         tailoring,

@@ -2,7 +2,7 @@ ghost use Rattle.std.specs.Prelude.{◌≡◌, ◌≤◌, ◌^◌, true, length,
 ghost use Rattle.hk_base.specs.TailoringParts.{TailoringParts};
 ghost use Rattle.hk_base.specs.Outcomes.{Gives};
 ghost use Rattle.hk_base.specs.Reading.{reader};
-ghost use Rattle.st03_grammar.specs.Instructions.{AreKeysApart};
+ghost use Rattle.st03_grammar.specs.Instructions.{structure_changes, AreKeysApart};
 ghost use Rattle.st03_grammar.specs.Spelling.{IsSpelledRequest};
 ghost use Rattle.st03_grammar.specs.Bodies.{creation, appending, on_each, intervals, request_table, request_body};
 
@@ -133,6 +133,7 @@ pub fn decode_request(
     requires size { length body.now ≤ 2 ^ 31 }
     ensures gives { IfSome (request_body tailoring.now subtype body.now) (λ given. Gives (λ request. request) result given) }
     ensures found { IfOk result (λ request. IsSpelledRequest tailoring.now subtype request body.now) }
+    ensures few { IfOk result (λ request. length (structure_changes request) ≤ 255) }
     ensures apart { IfOk result (λ request. AreKeysApart request) }
 {
     read_body(alloc, tailoring, subtype, body)

@@ -92,11 +92,7 @@ impl WriteMember for WrittenArrays<'_> {
 }
 
 /// Appends a count and so many IDs of parameters.
-fn write_params(
-    tailoring: &Tailoring,
-    ids: &Items<u32>,
-    out: &mut Vec<u8>,
-) -> Result<(), Memory>
+fn write_params(tailoring: &Tailoring, ids: &Items<u32>, out: &mut Vec<u8>) -> Result<(), Memory>
     requires { ParamsFit tailoring.now ids.now }
     ensures { Appends out.old.items result out.new.items (counted_octets tailoring.now (param_octets tailoring.now) ids.now) }
 {
@@ -114,7 +110,12 @@ fn write_arrays(
     requires fit { AllByRecursion (ArrayFits tailoring.now) arrays.now }
     ensures { Appends out.old.items result out.new.items (counted_octets tailoring.now (spelling.array_octets tailoring.now) arrays.now) }
 {
-    write_list(tailoring, &WrittenArrays { tailoring }, arrays.as_slice(), out)
+    write_list(
+        tailoring,
+        &WrittenArrays { tailoring },
+        arrays.as_slice(),
+        out,
+    )
 }
 
 /// Appends simple parameters and arrays.
@@ -181,11 +182,7 @@ pub fn encode_request(
 }
 
 /// Appends the fields of a report.
-fn write_report(
-    tailoring: &Tailoring,
-    report: &Report03,
-    out: &mut Vec<u8>,
-) -> Result<(), Memory>
+fn write_report(tailoring: &Tailoring, report: &Report03, out: &mut Vec<u8>) -> Result<(), Memory>
     requires { ReportFits tailoring.now report.now }
     ensures { Appends out.old.items result out.new.items (spelling.report_octets tailoring.now report.now) }
 {

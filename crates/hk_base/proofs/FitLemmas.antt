@@ -92,15 +92,12 @@ fits-in_octets p v shape fit = go p.form shape.form fit
   where
     room : 2 ^ p.bits ≤ 256 ^ p.octets
     room = wider p.bits p.octets shape.octets
-
     enumerated : (values : List ℤ) (z : ℤ) → IsBelow (256 ^ p.octets) z → IsInOctets (Enumerated values) p.octets z
     enumerated values (pos n) is = is
     enumerated values (negsuc n) is = is
-
     boolean : (z : ℤ) → IsBelow (256 ^ p.octets) z → IsInOctets Boolean p.octets z
     boolean (pos n) is = is
     boolean (negsuc n) is = is
-
     go : (form : Form) → IsFitForm form p.bits → in_range form p.bits v ≡ true → IsInOctets form p.octets v
     go Unsigned is e = unsigned_in p.bits p.octets v room e
     go Signed is e = signed_in p.bits p.octets v shape.bits.0 room e
@@ -118,10 +115,9 @@ find-passes test (y ∷ xs) x e = passes test y x (find test xs) (test y) refl e
 
 -- a parameter that is found is fit, and has the ID
 pub parameter-fit : (t : TailoringParts) (id : ℕ) (p : Param) → IsFit t → parameter t id ≡ Some p → IsFitParam t.widths p × (p.id ≡ id)
-parameter-fit t id p fit e = (
-  find_each (IsFitParam t.widths) (λ (q : Param). q.id == id) t.params p e fit.params,
-  (Decides-eqb p.id id).0 (find-passes (λ (q : Param). q.id == id) t.params p e),
-)
+parameter-fit t id p fit e =
+    (find_each (IsFitParam t.widths) (λ (q : Param). q.id == id) t.params p e fit.params,
+    (Decides-eqb p.id id).0 (find-passes (λ (q : Param). q.id == id) t.params p e))
 
 -- an ID that stands is one of a parameter
 pub param_known : (t : TailoringParts) (earlier : List ℕ) (id : ℕ) → param_fault t earlier id ≡ None → (p : Param) × (parameter t id ≡ Some p)

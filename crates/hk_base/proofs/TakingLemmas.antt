@@ -78,15 +78,9 @@ took-octets count octets are = go (nat_lt (length octets) count) refl
         → Took (λ field text. (text ≡ field) × (length field ≡ count) × AreOctets field) octets (if b then Err Short else Ok (take count octets, drop count octets))
     go true e = tt
     go false e =
-        let enough : count ≤ length octets = grind (arith, nat_tests) in (
-          take count octets,
-          sym (take-append-drop count octets),
-          (
-            refl,
-            length-take-le count octets enough,
-            AreOctets-before (take count octets) (drop count octets) (subst AreOctets (sym (take-append-drop count octets)) are),
-          ),
-        )
+        let enough : count ≤ length octets = grind (arith, nat_tests) in
+        (take count octets, sym (take-append-drop count octets), (refl, length-take-le count octets enough,
+        AreOctets-before (take count octets) (drop count octets) (subst AreOctets (sym (take-append-drop count octets)) are)))
 
 -- octets make a number that they have room for
 pub number-below : (octets : List ℕ) → AreOctets octets → number_of octets < 256 ^ length octets
@@ -203,11 +197,9 @@ took-counted t least member spell Stands each octets are =
     (λ xs more. (text ++ more ≡ counted_octets t spell xs) × IsCount t least (length xs) × AllAmong Stands [] xs) rest
     (list_of member n [] rest)
     (took-list member spell Stands each n [] rest are_rest)
-    (λ xs more g. (
-      ap (λ a. a ++ more) h.0.0 ∙ ap (λ k. octets_of t.widths.count_octets k ++ more) (sym g.1) ∙ ap (λ b. octets_of t.widths.count_octets (length xs) ++ b) g.0,
-      subst (IsCount t least) (sym g.1) (count_stands t least n h.0.1 h.1),
-      g.2,
-    )))
+    (λ xs more g.
+    (ap (λ a. a ++ more) h.0.0 ∙ ap (λ k. octets_of t.widths.count_octets k ++ more) (sym g.1) ∙ ap (λ b. octets_of t.widths.count_octets (length xs) ++ b) g.0,
+    subst (IsCount t least) (sym g.1) (count_stands t least n h.0.1 h.1), g.2)))
 
 abbrev done : {A : Type 0} → A → Result A BodyFault
 done x = Ok x

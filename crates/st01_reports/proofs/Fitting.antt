@@ -1,5 +1,5 @@
 -- What is of the grammar has room in its fields.
-use Rattle.std.proofs.Common.{ℕ, ◌^◌, ◌<◌, ◌≤◌, List, [], ◌∷◌, length}
+use Rattle.std.proofs.Common.{ℕ, ◌≤◌, List, [], ◌∷◌, length}
 use Rattle.hk_base.specs.TailoringParts.{TailoringParts}
 use Rattle.hk_base.specs.Spelling.{AllFit}
 use Rattle.st01_reports.specs.Spelling.{AreRising, IsVerification, VerificationFits}

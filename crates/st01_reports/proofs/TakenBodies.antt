@@ -1,5 +1,5 @@
 -- Verification reports stood in their spelling where they were read.
-use Rattle.std.proofs.Common.{arith, ◌≡◌, refl, ap, ◌∙◌, ℕ, ◌^◌, ◌<◌, ◌≤◌, List, [], ◌∷◌, ◌++◌, length, Bool, true, false, Option, Some, None, Ok}
+use Rattle.std.proofs.Common.{arith, ◌≡◌, refl, ap, ◌∙◌, ℕ, ◌^◌, ◌<◌, List, [], ◌∷◌, ◌++◌, length, Bool, true, false, Some, None, Ok}
 use Rattle.std.specs.Prelude.{◌==◌, nat_le, if◌then◌else◌}
 use Rattle.std.specs.Option.{option_or}
 use Rattle.std.proofs.lemmas.Bool.Decides.{nat_tests}
@@ -7,13 +7,13 @@ use Rattle.std.proofs.lemmas.Option.{none-some}
 use Rattle.std.proofs.Common.{sym}
 use Rattle.hk_base.specs.TailoringParts.{TailoringParts}
 use Rattle.hk_base.specs.Fields.{octets_of}
-use Rattle.hk_base.specs.Reading.{Read, then_read, with_check, uint, counted_list}
+use Rattle.hk_base.specs.Reading.{then_read, uint, counted_list}
 use Rattle.hk_base.specs.Spelling.{AreOctets, AllAmong, IsCount, counted_octets}
 use Rattle.hk_base.specs.declared.types.RequestId.{RequestId}
 use Rattle.hk_base.specs.declared.types.BodyFault.TheVariants.{ZeroCount, RepeatedKey}
 use Rattle.hk_base.proofs.TakingLemmas.{Took, IsSpelled, took-then, took-map, took-check, took-weaken, took-uint, took-counted, body-took}
 use Rattle.st01_reports.specs.Bodies.{request_field, cause_field, step_fault, step_field, on_request, with_cause, step_report, step_failure, incompletion, report_table, report_body}
-use Rattle.st01_reports.specs.Spelling.{id_octets, cause_octets, step_octets, subtype, verification_octets, IsRequestId, IsCause, AreRising, IsSpelledReport}
+use Rattle.st01_reports.specs.Spelling.{id_octets, cause_octets, step_octets, IsRequestId, IsCause, AreRising, IsSpelledReport}
 use Rattle.st01_reports.specs.declared.verification.Cause.{Cause}
 use Rattle.st01_reports.specs.declared.verification.Verification.{Verification}
 use Rattle.st01_reports.specs.declared.verification.Verification.TheVariants.{Accepted, Refused, Started, NotStarted, Step, StepFailed, Completed, Incomplete, NotRouted}

@@ -1,11 +1,10 @@
 -- The instructions of a request that was read are on structures apart, so each is the only one on its structure.
 use Rattle.std.proofs.Common.{arith, ◌≡◌, ◌∙◌, refl, sym, ap, subst, ℕ, zero, suc, ◌+◌, List, [], ◌∷◌, map, inl, inr, Bool, true, false, cond, Option, Some, None, Result, Ok, Err}
-use Rattle.std.specs.Prelude.{slice_get, option_map, is_some, IfSome, IfOk, ◌==◌, ◌&&◌}
+use Rattle.std.specs.Prelude.{slice_get, option_map, is_some, IfSome, IfOk, ◌==◌}
 use Rattle.std.specs.List.{IsDistinct, AllByRecursion, position, position_from}
 use Rattle.std.specs.Option.{option_and_then}
 use Rattle.std.proofs.lemmas.Bool.{both_ways, and_parts, eqb-true, eq-eqb}
 use Rattle.std.proofs.lemmas.Option.{none-some, same_Some}
-use Rattle.std.proofs.lemmas.Map.Keys.{IsDistinct-cons, IsDistinct-head, IsDistinct-tail}
 use Rattle.std.proofs.lemmas.Iterator.Adapters.{position_from-zero}
 use Rattle.hk_base.specs.TailoringParts.{TailoringParts}
 use Rattle.hk_base.specs.Outcomes.{Gives}

@@ -1,11 +1,10 @@
 -- Housekeeping requests and reports are read back from their spelling.
-use Rattle.std.proofs.Common.{◌≡◌, refl, ap, ◌∙◌, ℕ, zero, suc, ◌^◌, ◌<◌, ◌≤◌, List, [], ◌∷◌, ◌++◌, length, map, Bool, true, false, Option, Some, None, Result, Ok}
-use Rattle.std.specs.Prelude.{flat_map}
+use Rattle.std.proofs.Common.{◌≡◌, refl, ap, ◌∙◌, ℕ, ◌^◌, ◌<◌, List, [], ◌∷◌, ◌++◌, map, Bool, true, false, Option, Some, None, Ok}
 use Rattle.std.specs.List.{AllByRecursion}
 use Rattle.hk_base.specs.TailoringParts.{TailoringParts}
 use Rattle.hk_base.specs.Fields.{octets_of}
-use Rattle.hk_base.specs.Reading.{Read, then_read, with_check, whole_body, uint, list_of, count_field, counted_list, repeat_fault, param_fault, param_field, interval_fault, interval_field, flag_field}
-use Rattle.hk_base.specs.Spelling.{Reads, AllRead, AllStand, AllFit, IsCount, counted_octets, structure_octets, param_octets, interval_octets, flag_octets}
+use Rattle.hk_base.specs.Reading.{Read, then_read, with_check, whole_body, uint, counted_list, repeat_fault, param_fault, param_field, interval_fault, interval_field, flag_field}
+use Rattle.hk_base.specs.Spelling.{Reads, AllRead, AllStand, AllFit, counted_octets, structure_octets, param_octets, interval_octets, flag_octets}
 use Rattle.hk_base.specs.declared.types.BodyFault.{BodyFault}
 use Rattle.hk_base.specs.declared.types.Kind.{Kind}
 use Rattle.hk_base.specs.declared.types.Kind.TheVariants.{Housekeeping, Diagnostic}
@@ -13,10 +12,10 @@ use Rattle.hk_base.specs.declared.types.Key.{Key}
 use Rattle.hk_base.specs.declared.types.SuperList.{SuperList}
 use Rattle.hk_base.specs.declared.types.Definition.{Definition}
 use Rattle.hk_base.specs.declared.types.Structure.{Structure}
-use Rattle.hk_base.proofs.ReadingLemmas.{reads-then, reads-map, reads-check, reads-uint, reads-flag, reads-list, reads-counted, whole-reads}
+use Rattle.hk_base.proofs.ReadingLemmas.{reads-then, reads-map, reads-check, reads-uint, reads-flag, reads-counted, whole-reads}
 use Rattle.st03_grammar.specs.Instructions.{key_of}
 use Rattle.st03_grammar.specs.Bodies.{structure_field, key_field, repetition_fault, in_view, array_view, array_field, least_arrays, lists_field, definition_of, creation, appending, on_each, pair_field, intervals, request_body, structure_report, parameter_report, row_field, periodic_report, report_body}
-use Rattle.st03_grammar.specs.Spelling.{by_kind, each_subtype, request_subtype, report_subtype, array_octets, lists_octets, pair_octets, row_octets, request_octets, report_octets, IsInterval, AreStructures, AreParams, IsArray, AreArrays, AreLists, IsRequest03, IsReport03}
+use Rattle.st03_grammar.specs.Spelling.{by_kind, each_subtype, request_subtype, report_subtype, array_octets, lists_octets, pair_octets, row_octets, request_octets, report_octets, IsInterval, AreParams, IsArray, AreArrays, AreLists, IsRequest03, IsReport03}
 use Rattle.st03_grammar.specs.declared.bodies.Added.{Added}
 use Rattle.st03_grammar.specs.declared.bodies.Each.{Each}
 use Rattle.st03_grammar.specs.declared.bodies.Each.TheVariants.{Delete, Enable, Disable, Show, OneShot, ShowPeriodic}

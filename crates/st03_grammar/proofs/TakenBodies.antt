@@ -1,13 +1,13 @@
 -- Housekeeping requests and reports stood in their spelling where they were read.
-use Rattle.std.proofs.Common.{◌≡◌, refl, sym, ap, ◌∙◌, ℕ, ◌^◌, ◌<◌, List, [], ◌∷◌, ◌++◌, append-nil, length, map, Bool, true, false, Option, Some, None, Ok}
+use Rattle.std.proofs.Common.{◌≡◌, refl, sym, ap, ℕ, List, [], ◌++◌, append-nil, length, true, false, Some, None, Ok}
 use Rattle.hk_base.specs.TailoringParts.{TailoringParts}
-use Rattle.hk_base.specs.Reading.{Read, then_read, counted_list, flag_field, interval_field}
+use Rattle.hk_base.specs.Reading.{then_read, counted_list, flag_field, interval_field}
 use Rattle.hk_base.specs.Spelling.{AreOctets, AllAmong, IsCount, counted_octets, structure_octets, interval_octets, flag_octets}
 use Rattle.hk_base.specs.declared.types.Kind.{Kind}
 use Rattle.hk_base.specs.declared.types.Kind.TheVariants.{Housekeeping, Diagnostic}
 use Rattle.hk_base.proofs.TakingLemmas.{Took, took-then, took-map, took-flag, took-counted, body-took}
 use Rattle.st03_grammar.specs.Bodies.{key_field, lists_field, structure_field, definition_of, creation, appending, on_each, pair_field, intervals, request_table, request_body, structure_report, parameter_report, row_field, periodic_report, report_table, report_body}
-use Rattle.st03_grammar.specs.Spelling.{by_kind, each_subtype, request_subtype, report_subtype, lists_octets, pair_octets, row_octets, request_octets, report_octets, AreStructures, AreLists, IsSpelledRequest, IsSpelledReport}
+use Rattle.st03_grammar.specs.Spelling.{by_kind, each_subtype, lists_octets, pair_octets, row_octets, AreStructures, AreLists, IsSpelledRequest, IsSpelledReport}
 use Rattle.st03_grammar.specs.declared.bodies.Each.{Each}
 use Rattle.st03_grammar.specs.declared.bodies.Each.TheVariants.{Delete, Enable, Disable, Show, OneShot, ShowPeriodic}
 use Rattle.st03_grammar.specs.declared.bodies.Request03.{Request03}

@@ -1,9 +1,9 @@
 -- The fields of housekeeping bodies stood in their spelling where they were read.
-use Rattle.std.proofs.Common.{◌≡◌, refl, sym, ap, ◌∙◌, ℕ, ◌^◌, ◌<◌, List, [], ◌∷◌, ◌++◌, length, map, Bool, Option, Some, None, Ok}
+use Rattle.std.proofs.Common.{◌≡◌, refl, ap, ◌∙◌, ℕ, ◌^◌, ◌<◌, List, [], ◌∷◌, ◌++◌, length, map, Bool, Option, None, Ok}
 use Rattle.std.specs.List.{AllByRecursion}
 use Rattle.hk_base.specs.TailoringParts.{TailoringParts}
 use Rattle.hk_base.specs.Fields.{octets_of}
-use Rattle.hk_base.specs.Reading.{Read, then_read, with_check, uint, counted_list, repeat_fault, param_fault, param_field, interval_fault, interval_field, flag_field}
+use Rattle.hk_base.specs.Reading.{then_read, with_check, uint, counted_list, repeat_fault, param_fault, param_field, interval_fault, interval_field, flag_field}
 use Rattle.hk_base.specs.Spelling.{AreOctets, AllAmong, AllStand, AllFit, IsCount, counted_octets, structure_octets, param_octets, interval_octets, flag_octets}
 use Rattle.hk_base.specs.declared.types.BodyFault.{BodyFault}
 use Rattle.hk_base.specs.declared.types.Kind.{Kind}
@@ -13,7 +13,6 @@ use Rattle.hk_base.proofs.TakingLemmas.{Took, IsSpelled, took-then, took-map, to
 use Rattle.st03_grammar.specs.Instructions.{key_of}
 use Rattle.st03_grammar.specs.Bodies.{structure_field, key_field, repetition_fault, in_view, array_view, array_field, least_arrays, lists_field, pair_field, row_field}
 use Rattle.st03_grammar.specs.Spelling.{array_octets, lists_octets, pair_octets, row_octets, IsInterval, AreStructures, AreParams, IsArray, AreArrays, AreLists}
-use Rattle.st03_grammar.specs.declared.bodies.Added.{Added}
 use Rattle.st03_grammar.specs.declared.bodies.Pair.{Pair}
 use Rattle.st03_grammar.specs.declared.bodies.PeriodicRow.{PeriodicRow}
 

@@ -1,5 +1,5 @@
 -- The spelling of housekeeping requests and reports.
-use Rattle.std.specs.Prelude.{◌≡◌, ℕ, ◌^◌, ◌<◌, ◌≤◌, ⊤, List, [], ◌∷◌, ◌++◌, length, map, flat_map, Bool, true, false, Option, Some, None}
+use Rattle.std.specs.Prelude.{◌≡◌, ℕ, ◌^◌, ◌<◌, ◌≤◌, ⊤, List, [], ◌∷◌, ◌++◌, length, map, Bool, true, false, Option, Some, None}
 use Rattle.std.specs.List.{AllByRecursion}
 use Rattle.hk_base.specs.TailoringParts.{TailoringParts}
 use Rattle.hk_base.specs.Fields.{octets_of}

@@ -15,3 +15,6 @@ pub mod RoomLemmas
 pub mod RowLemmas
 pub mod ListReading
 pub mod Writing
+pub mod TakingLemmas
+pub mod FitLemmas
+pub mod NamedLemmas

@@ -1,10 +1,10 @@
 -- Writing the fields of a body. Each value has one spelling, from which the readers read it back.
-use Rattle.std.specs.Prelude.{◌≡◌, ℕ, suc, ◌+◌, ◌*◌, ◌^◌, ◌<◌, ◌≤◌, List, [], ◌∷◌, ◌++◌, length, flat_map, ℤ, pos, negsuc, Bool, true, false, ⊤, Ok, Option, None}
+use Rattle.std.specs.Prelude.{◌≡◌, ℕ, suc, ◌+◌, ◌*◌, ◌^◌, ◌<◌, ◌≤◌, List, [], ◌∷◌, ◌++◌, length, flat_map, ℤ, pos, negsuc, Bool, true, false, ⊤, Ok, Option, None, IfSome, IsTrue}
 use Rattle.std.specs.List.{AllByRecursion}
 use Rattle.std.specs.Option.{option_map_or}
 use Rattle.hk_base.specs.TailoringParts.{TailoringParts}
 use Rattle.hk_base.specs.Fields.{FitsSignedOctets, octets_of, signed_octets_of}
-use Rattle.hk_base.specs.Parameters.{parameter}
+use Rattle.hk_base.specs.Parameters.{parameter, fits}
 use Rattle.hk_base.specs.Reading.{Read}
 use Rattle.hk_base.specs.declared.types.BodyFault.{BodyFault}
 use Rattle.hk_base.specs.declared.types.Form.{Form}
@@ -70,3 +70,16 @@ abbrev pub IsInOctets : Form → ℕ → ℤ → Type 0
 IsInOctets Signed octets v = FitsSignedOctets octets v
 IsInOctets _ octets (pos n) = n < 256 ^ octets
 IsInOctets _ octets (negsuc n) = ⊥
+
+-- numbers that octets can be
+abbrev pub AreOctets : List ℕ → Type 0
+AreOctets octets = AllByRecursion (λ octet. octet < 256) octets
+
+-- each member of a list is so among those before it, the newest first
+abbrev pub AllAmong : {A : Type 0} → (List A → A → Type 0) → List A → List A → Type 0
+AllAmong P earlier [] = ⊤
+AllAmong P earlier (x ∷ xs) = P earlier x × AllAmong P (x ∷ earlier) xs
+
+-- a value that the parameter with an ID can have
+abbrev pub IsValueOf : TailoringParts → ℕ → ℤ → Type 0
+IsValueOf t id v = IfSome (parameter t id) (λ p. IsTrue (fits p v))

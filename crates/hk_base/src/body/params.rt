@@ -43,6 +43,7 @@ pub fn read_param_id<'a>(
 }
 
 /// The IDs of known parameters, each once.
+#[derive(Drop)]
 pub struct ParamIds<'t> {
     pub tailoring: &'t Tailoring,
 }

@@ -1,6 +1,7 @@
 -- What the fields of a fit tailoring hold.
 use Rattle.std.proofs.Common.{arith, ◌≡◌, refl, sym, ap, subst, ◌∙◌, ℕ, zero, suc, ◌+◌, ◌-◌, ◌*◌, ◌/◌, ◌%◌, ◌^◌, ◌<◌, ◌≤◌, pow-add, List, [], ◌∷◌, Bool, true, false, ◌&&◌, ◌⊎◌, inl, inr, Option, Some, None, ℤ, pos, negsuc}
 use Rattle.std.specs.Prelude.{◌==◌, ◌||◌, find, int_le, int_lt, is_some, not, ◌≤ℤ◌, ◌<ℤ◌, nat_lt, if◌then◌else◌}
+use Rattle.std.specs.Prelude.{◌==◌, ◌||◌, find, int_le, int_lt, is_some, not, ◌≤ℤ◌, ◌<ℤ◌, IsSome, nat_lt, if◌then◌else◌}
 use Rattle.std.specs.Ordering.{int_eq}
 use Rattle.std.specs.Option.{option_or}
 use Rattle.std.specs.List.{list_any, AllByRecursion}
@@ -98,6 +99,9 @@ fits-in_octets p v shape fit = go p.form shape.form fit
     boolean : (z : ℤ) → IsBelow (256 ^ p.octets) z → IsInOctets Boolean p.octets z
     boolean (pos n) is = is
     boolean (negsuc n) is = is
+
+
+
     go : (form : Form) → IsFitForm form p.bits → in_range form p.bits v ≡ true → IsInOctets form p.octets v
     go Unsigned is e = unsigned_in p.bits p.octets v room e
     go Signed is e = signed_in p.bits p.octets v shape.bits.0 room e
@@ -118,6 +122,10 @@ pub parameter-fit : (t : TailoringParts) (id : ℕ) (p : Param) → IsFit t → 
 parameter-fit t id p fit e =
     (find_each (IsFitParam t.widths) (λ (q : Param). q.id == id) t.params p e fit.params,
     (Decides-eqb p.id id).0 (find-passes (λ (q : Param). q.id == id) t.params p e))
+parameter-fit t id p fit e = (
+  find_each (IsFitParam t.widths) (λ (q : Param). q.id == id) t.params p e fit.params,
+  (Decides-eqb p.id id).0 (find-passes (λ (q : Param). q.id == id) t.params p e),
+)
 
 -- an ID that stands is one of a parameter
 pub param_known : (t : TailoringParts) (earlier : List ℕ) (id : ℕ) → param_fault t earlier id ≡ None → (p : Param) × (parameter t id ≡ Some p)
@@ -135,6 +143,16 @@ param_in_octets t earlier id fit e =
     let known = param_known t earlier id e in
     let p = parameter-fit t id known.0 fit known.1 in
     subst (λ n. n < 256 ^ t.widths.parameter_octets) p.1 p.0.id
+
+-- the ID of a known parameter has room in its octets
+pub known_in_octets : (t : TailoringParts) (id : ℕ) → IsFit t → IsSome (parameter t id) → id < 256 ^ t.widths.parameter_octets
+known_in_octets t id fit known = go (parameter t id) refl known
+  where
+    go : (o : Option Param) → parameter t id ≡ o → IsSome o → id < 256 ^ t.widths.parameter_octets
+    go None is some = absurd (both_ways false refl some)
+    go (Some p) is some =
+        let found = parameter-fit t id p fit is in
+        subst (λ n. n < 256 ^ t.widths.parameter_octets) found.1 found.0.id
 
 -- an interval that stands has room in its octets
 pub interval_in_octets : (t : TailoringParts) (n : ℕ) → IsFit t → interval_fault t n ≡ None → n < 256 ^ t.widths.interval_octets

@@ -1,12 +1,15 @@
 -- Lists of parameter IDs, and the values that stand after an ID.
 use Rattle.std.proofs.Common.{◌≡◌, refl, sym, ap, subst, ◌∙◌, ℕ, ◌+◌, ◌^◌, ◌<◌, List, [], ◌∷◌, ◌++◌, length, map, Bool, true, false, Option, Some, None, Ok, Err, ℤ}
 use Rattle.std.specs.Prelude.{⊤, not, flat_map, IfSome, IsTrue}
+use Rattle.std.specs.Prelude.{⊤, not, flat_map, IfSome, IsTrue, IsSome, is_some}
+use Rattle.std.specs.List.{AllByRecursion}
 use Rattle.std.specs.Option.{option_map_or}
 use Rattle.hk_base.specs.TailoringParts.{TailoringParts}
 use Rattle.hk_base.specs.Fields.{signed_octets_of}
 use Rattle.hk_base.specs.Parameters.{parameter, fits}
 use Rattle.hk_base.specs.Fit.{IsFit}
 use Rattle.hk_base.specs.Reading.{Read, then_read, with_check, fault_if, octets_field, uint, form_number, value_field, value_of_field}
+use Rattle.hk_base.specs.Reading.{Read, then_read, with_check, fault_if, octets_field, uint, param_fault, form_number, value_field, value_of_field}
 use Rattle.hk_base.specs.Spelling.{Reads, AllRead, AllStand, AllAmong, AreOctets, IsInOctets, IsValueOf, param_octets, value_octets}
 use Rattle.hk_base.specs.declared.types.Param.{Param}
 use Rattle.hk_base.specs.declared.types.BodyFault.{BodyFault}
@@ -14,6 +17,7 @@ use Rattle.hk_base.specs.declared.types.BodyFault.TheVariants.{WrongValue, Unkno
 use Rattle.hk_base.proofs.ReadingLemmas.{reads-check, reads-uint}
 use Rattle.hk_base.proofs.ValueLemmas.{reads-value}
 use Rattle.hk_base.proofs.FitLemmas.{fits-in_octets, parameter-fit}
+use Rattle.hk_base.proofs.FitLemmas.{fits-in_octets, parameter-fit, param_known}
 use Rattle.hk_base.proofs.TakingLemmas.{Took, IsSpelled, took-then, took-map, took-check, took-weaken, took-octets, took-uint, value-spelled, no_fault}
 
 -- an ID of which a check finds no fault
@@ -53,6 +57,8 @@ ids_stand fault earlier [] all = tt
 ids_stand fault earlier (id ∷ ids) all = (all.0, ids_stand fault (id ∷ earlier) ids all.1)
 
 known_fits : (o : Option Param) (p : Param) (v : ℤ) → o ≡ Some p → IfSome o (λ q. IsTrue (fits q v)) → fits p v ≡ true
+-- what a parameter can have fits it
+pub known_fits : (o : Option Param) (p : Param) (v : ℤ) → o ≡ Some p → IfSome o (λ q. IsTrue (fits q v)) → fits p v ≡ true
 known_fits o p v e is = subst (λ x. IfSome x (λ q. IsTrue (fits q v))) e is
 
 -- a value that its parameter can have is read from its spelling
@@ -90,3 +96,11 @@ took-value_of t id octets are = go (parameter t id)
         (option_map_or (λ p. value_field p octets) o (Err (UnknownParam id)))
     go None = tt
     go (Some p) = took-value p octets are
+
+-- IDs that stand are those of known parameters
+pub ids_known : (t : TailoringParts) (fault : List ℕ → ℕ → Option BodyFault) (earlier ids : List ℕ)
+    → ((before : List ℕ) (id : ℕ) → fault before id ≡ None → param_fault t before id ≡ None)
+    → AllStand fault earlier ids → AllByRecursion (λ id. IsSome (parameter t id)) ids
+ids_known t fault earlier [] knows stand = tt
+ids_known t fault earlier (id ∷ ids) knows stand =
+    (ap is_some (param_known t earlier id (knows earlier id stand.0)).1, ids_known t fault (id ∷ earlier) ids knows stand.1)

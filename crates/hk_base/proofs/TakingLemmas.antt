@@ -81,6 +81,15 @@ took-octets count octets are = go (nat_lt (length octets) count) refl
         let enough : count ≤ length octets = grind (arith, nat_tests) in
         (take count octets, sym (take-append-drop count octets), (refl, length-take-le count octets enough,
         AreOctets-before (take count octets) (drop count octets) (subst AreOctets (sym (take-append-drop count octets)) are)))
+        let enough : count ≤ length octets = grind (arith, nat_tests) in (
+          take count octets,
+          sym (take-append-drop count octets),
+          (
+            refl,
+            length-take-le count octets enough,
+            AreOctets-before (take count octets) (drop count octets) (subst AreOctets (sym (take-append-drop count octets)) are),
+          ),
+        )
 
 -- octets make a number that they have room for
 pub number-below : (octets : List ℕ) → AreOctets octets → number_of octets < 256 ^ length octets
@@ -200,6 +209,11 @@ took-counted t least member spell Stands each octets are =
     (λ xs more g.
     (ap (λ a. a ++ more) h.0.0 ∙ ap (λ k. octets_of t.widths.count_octets k ++ more) (sym g.1) ∙ ap (λ b. octets_of t.widths.count_octets (length xs) ++ b) g.0,
     subst (IsCount t least) (sym g.1) (count_stands t least n h.0.1 h.1), g.2)))
+    (λ xs more g. (
+      ap (λ a. a ++ more) h.0.0 ∙ ap (λ k. octets_of t.widths.count_octets k ++ more) (sym g.1) ∙ ap (λ b. octets_of t.widths.count_octets (length xs) ++ b) g.0,
+      subst (IsCount t least) (sym g.1) (count_stands t least n h.0.1 h.1),
+      g.2,
+    )))
 
 abbrev done : {A : Type 0} → A → Result A BodyFault
 done x = Ok x

@@ -5,12 +5,14 @@
 
 mod fault;
 mod list;
+mod named;
 mod params;
 mod reading;
 mod values;
 mod writing;
 
 pub use list::{ReadMember, WriteMember, read_list, write_list};
+pub use named::{read_value_of, write_known_id, write_value_of};
 pub use params::{ParamIds, check_param, is_listed, read_param_id};
 pub use reading::{
     read_count, read_flag, read_interval, read_number, read_octets, read_time, whole,

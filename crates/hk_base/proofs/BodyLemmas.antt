@@ -1,5 +1,5 @@
 -- What the calls on whole bodies answer.
-use Rattle.std.proofs.Common.{◌≡◌, refl, ℕ, zero, suc, ◌<◌, List, [], ◌∷◌, get_or, Bool, true, false, Option, Some, None, Result, Ok, Err, ap}
+use Rattle.std.proofs.Common.{◌≡◌, refl, ℕ, suc, ◌<◌, List, [], ◌∷◌, get_or, true, false, Option, Some, None, Result, Ok, Err, ap}
 use Rattle.std.specs.Prelude.{is_some, IfSome, IfOk, option_map}
 use Rattle.std.proofs.lemmas.Bool.{both_ways}
 use Rattle.hk_base.specs.Outcomes.{Gives}

@@ -1,12 +1,12 @@
 -- The tailoring that is built in is fit.
-use Rattle.std.proofs.Common.{◌≡◌, ◌≤◌, ◌<◌, ◌*◌, lit≤, lit<, eqb, map, pos, ℕ, Bool, true, false, List, [], ◌∷◌, Some, refl, arith}
+use Rattle.std.proofs.Common.{◌≤◌, ◌<◌, ◌*◌, lit≤, lit<, eqb, map, pos, ℕ, [], ◌∷◌, Some, refl, arith}
 use Rattle.std.specs.List.{IsDistinct, AllByRecursion}
 use Rattle.std.specs.Int.Signed.{le_z_yes, lt_z_yes}
 use Rattle.hk_base.specs.declared.types.Form.{Form}
 use Rattle.hk_base.specs.declared.types.Form.TheVariants.{Unsigned, Signed, Enumerated, Boolean}
 use Rattle.hk_base.specs.declared.types.Param.{Param}
 use Rattle.hk_base.specs.declared.types.Boot.{Boot}
-use Rattle.hk_base.specs.Fit.{IsFit, IsFitWidths, IsFitForm, IsFitParam, IsFitBoot}
+use Rattle.hk_base.specs.Fit.{IsFit, IsFitWidths, IsFitForm, IsFitParam}
 use Rattle.hk_base.specs.Payload.{IsValid}
 use Rattle.hk_base.specs.Parameters.{key_eq}
 use Rattle.hk_base.specs.Builtin.{builtin, builtin_widths, builtin_params, builtin_boots, sensed}
@@ -45,22 +45,49 @@ listed_fit : IsFitForm (Enumerated (pos 0 ∷ pos 1 ∷ pos 2 ∷ pos 7 ∷ []))
 listed_fit = ((lit≤ tt, lit≤ tt), ((le_z_yes tt, lt_z_yes tt), ((le_z_yes tt, lt_z_yes tt), ((le_z_yes tt, lt_z_yes tt), ((le_z_yes tt, lt_z_yes tt), tt)))))
 
 each_fit : AllByRecursion (IsFitParam builtin_widths) builtin_params
-each_fit =
-    (plain_fit 1 2 Unsigned (lit< tt) (lit≤ tt) (lit≤ tt) tt,
-    (plain_fit 2 1 Signed (lit< tt) (lit≤ tt) (lit≤ tt) tt,
-    (plain_fit 3 1 Unsigned (lit< tt) (lit≤ tt) (lit≤ tt) tt,
-    (plain_fit 4 1 Boolean (lit< tt) (lit≤ tt) (lit≤ tt) tt,
-    (plain_fit 5 1 (Enumerated (pos 0 ∷ pos 1 ∷ pos 2 ∷ pos 7 ∷ [])) (lit< tt) (lit≤ tt) (lit≤ tt) listed_fit,
-    (plain_fit 6 4 Unsigned (lit< tt) (lit≤ tt) (lit≤ tt) tt,
-    (settable_fit,
-    (plain_fit 10 1 Unsigned (lit< tt) (lit≤ tt) (lit≤ tt) tt,
-    (plain_fit 11 1 Unsigned (lit< tt) (lit≤ tt) (lit≤ tt) tt,
-    (plain_fit 12 1 Unsigned (lit< tt) (lit≤ tt) (lit≤ tt) tt,
-    (plain_fit 13 1 Unsigned (lit< tt) (lit≤ tt) (lit≤ tt) tt,
-    (plain_fit 14 1 Unsigned (lit< tt) (lit≤ tt) (lit≤ tt) tt,
-    (plain_fit 15 1 Unsigned (lit< tt) (lit≤ tt) (lit≤ tt) tt,
-    (plain_fit 16 1 Unsigned (lit< tt) (lit≤ tt) (lit≤ tt) tt,
-    tt))))))))))))))
+each_fit = (
+  plain_fit 1 2 Unsigned (lit< tt) (lit≤ tt) (lit≤ tt) tt,
+  (
+    plain_fit 2 1 Signed (lit< tt) (lit≤ tt) (lit≤ tt) tt,
+    (
+      plain_fit 3 1 Unsigned (lit< tt) (lit≤ tt) (lit≤ tt) tt,
+      (
+        plain_fit 4 1 Boolean (lit< tt) (lit≤ tt) (lit≤ tt) tt,
+        (
+          plain_fit 5 1 (Enumerated (pos 0 ∷ pos 1 ∷ pos 2 ∷ pos 7 ∷ [])) (lit< tt) (lit≤ tt) (lit≤ tt) listed_fit,
+          (
+            plain_fit 6 4 Unsigned (lit< tt) (lit≤ tt) (lit≤ tt) tt,
+            (
+              settable_fit,
+              (
+                plain_fit 10 1 Unsigned (lit< tt) (lit≤ tt) (lit≤ tt) tt,
+                (
+                  plain_fit 11 1 Unsigned (lit< tt) (lit≤ tt) (lit≤ tt) tt,
+                  (
+                    plain_fit 12 1 Unsigned (lit< tt) (lit≤ tt) (lit≤ tt) tt,
+                    (
+                      plain_fit 13 1 Unsigned (lit< tt) (lit≤ tt) (lit≤ tt) tt,
+                      (
+                        plain_fit 14 1 Unsigned (lit< tt) (lit≤ tt) (lit≤ tt) tt,
+                        (
+                          plain_fit 15 1 Unsigned (lit< tt) (lit≤ tt) (lit≤ tt) tt,
+                          (
+                            plain_fit 16 1 Unsigned (lit< tt) (lit≤ tt) (lit≤ tt) tt,
+                            tt,
+                          ),
+                        ),
+                      ),
+                    ),
+                  ),
+                ),
+              ),
+            ),
+          ),
+        ),
+      ),
+    ),
+  ),
+)
 
 ids_distinct : IsDistinct eqb (map (λ (param : Param). param.id) builtin_params)
 unfolding IsDistinct

@@ -1,6 +1,5 @@
 -- What the fields of a fit tailoring hold.
-use Rattle.std.proofs.Common.{arith, ◌≡◌, refl, sym, ap, subst, ◌∙◌, ℕ, zero, suc, ◌+◌, ◌-◌, ◌*◌, ◌/◌, ◌%◌, ◌^◌, ◌<◌, ◌≤◌, pow-add, List, [], ◌∷◌, Bool, true, false, ◌&&◌, ◌⊎◌, inl, inr, Option, Some, None, ℤ, pos, negsuc}
-use Rattle.std.specs.Prelude.{◌==◌, ◌||◌, find, int_le, int_lt, is_some, not, ◌≤ℤ◌, ◌<ℤ◌, nat_lt, if◌then◌else◌}
+use Rattle.std.proofs.Common.{arith, ◌≡◌, refl, sym, ap, subst, ◌∙◌, ℕ, suc, ◌+◌, ◌-◌, ◌*◌, ◌/◌, ◌^◌, ◌<◌, ◌≤◌, List, [], ◌∷◌, Bool, true, false, ◌⊎◌, inl, inr, Option, Some, None, ℤ, pos, negsuc}
 use Rattle.std.specs.Prelude.{◌==◌, ◌||◌, find, int_le, int_lt, is_some, not, ◌≤ℤ◌, ◌<ℤ◌, IsSome, nat_lt, if◌then◌else◌}
 use Rattle.std.specs.Ordering.{int_eq}
 use Rattle.std.specs.Option.{option_or}
@@ -14,7 +13,7 @@ use Rattle.std.proofs.lemmas.Option.{none-some, same_Some}
 use Rattle.hk_base.specs.TailoringParts.{TailoringParts}
 use Rattle.hk_base.specs.Fields.{FitsSignedOctets, signed_of}
 use Rattle.hk_base.specs.Parameters.{parameter, fits, in_range}
-use Rattle.hk_base.specs.Fit.{IsFit, IsFitWidths, IsFitShape, IsFitForm, IsFitParam}
+use Rattle.hk_base.specs.Fit.{IsFit, IsFitShape, IsFitForm, IsFitParam}
 use Rattle.hk_base.specs.Reading.{param_fault, repeat_fault, interval_fault, fault_if}
 use Rattle.hk_base.specs.Spelling.{IsInOctets}
 use Rattle.hk_base.specs.declared.types.Form.{Form}
@@ -24,8 +23,7 @@ use Rattle.hk_base.specs.declared.types.BodyFault.{BodyFault}
 use Rattle.hk_base.specs.declared.types.BodyFault.TheVariants.{UnknownParam, ZeroInterval, LongInterval}
 use Rattle.hk_base.proofs.FieldLemmas.{pow_pos}
 use Rattle.hk_base.proofs.Finds.{find_each}
-use Rattle.hk_base.proofs.Numbers.{pow_of_octets, signed_of-below, signed_of-above}
-use Rattle.hk_base.proofs.TakingLemmas.{no_fault}
+use Rattle.hk_base.proofs.Numbers.{pow_of_octets, signed_of-above}
 
 -- the octets of a fit parameter have room for its bits
 bits_in_octets : (bits octets : ℕ) → octets ≡ (bits + 7) / 8 → bits ≤ 8 * octets
@@ -93,14 +91,14 @@ fits-in_octets p v shape fit = go p.form shape.form fit
   where
     room : 2 ^ p.bits ≤ 256 ^ p.octets
     room = wider p.bits p.octets shape.octets
+
     enumerated : (values : List ℤ) (z : ℤ) → IsBelow (256 ^ p.octets) z → IsInOctets (Enumerated values) p.octets z
     enumerated values (pos n) is = is
     enumerated values (negsuc n) is = is
+
     boolean : (z : ℤ) → IsBelow (256 ^ p.octets) z → IsInOctets Boolean p.octets z
     boolean (pos n) is = is
     boolean (negsuc n) is = is
-
-
 
     go : (form : Form) → IsFitForm form p.bits → in_range form p.bits v ≡ true → IsInOctets form p.octets v
     go Unsigned is e = unsigned_in p.bits p.octets v room e
@@ -119,9 +117,6 @@ find-passes test (y ∷ xs) x e = passes test y x (find test xs) (test y) refl e
 
 -- a parameter that is found is fit, and has the ID
 pub parameter-fit : (t : TailoringParts) (id : ℕ) (p : Param) → IsFit t → parameter t id ≡ Some p → IsFitParam t.widths p × (p.id ≡ id)
-parameter-fit t id p fit e =
-    (find_each (IsFitParam t.widths) (λ (q : Param). q.id == id) t.params p e fit.params,
-    (Decides-eqb p.id id).0 (find-passes (λ (q : Param). q.id == id) t.params p e))
 parameter-fit t id p fit e = (
   find_each (IsFitParam t.widths) (λ (q : Param). q.id == id) t.params p e fit.params,
   (Decides-eqb p.id id).0 (find-passes (λ (q : Param). q.id == id) t.params p e),

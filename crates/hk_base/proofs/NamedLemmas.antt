@@ -1,24 +1,21 @@
 -- Lists of parameter IDs, and the values that stand after an ID.
-use Rattle.std.proofs.Common.{◌≡◌, refl, sym, ap, subst, ◌∙◌, ℕ, ◌+◌, ◌^◌, ◌<◌, List, [], ◌∷◌, ◌++◌, length, map, Bool, true, false, Option, Some, None, Ok, Err, ℤ}
-use Rattle.std.specs.Prelude.{⊤, not, flat_map, IfSome, IsTrue}
-use Rattle.std.specs.Prelude.{⊤, not, flat_map, IfSome, IsTrue, IsSome, is_some}
+use Rattle.std.proofs.Common.{◌≡◌, refl, sym, ap, subst, ◌∙◌, ℕ, ◌^◌, ◌<◌, List, [], ◌∷◌, length, map, Bool, true, false, Option, Some, None, Ok, Err, ℤ}
+use Rattle.std.specs.Prelude.{not, IfSome, IsTrue, IsSome, is_some}
 use Rattle.std.specs.List.{AllByRecursion}
 use Rattle.std.specs.Option.{option_map_or}
 use Rattle.hk_base.specs.TailoringParts.{TailoringParts}
 use Rattle.hk_base.specs.Fields.{signed_octets_of}
 use Rattle.hk_base.specs.Parameters.{parameter, fits}
 use Rattle.hk_base.specs.Fit.{IsFit}
-use Rattle.hk_base.specs.Reading.{Read, then_read, with_check, fault_if, octets_field, uint, form_number, value_field, value_of_field}
 use Rattle.hk_base.specs.Reading.{Read, then_read, with_check, fault_if, octets_field, uint, param_fault, form_number, value_field, value_of_field}
-use Rattle.hk_base.specs.Spelling.{Reads, AllRead, AllStand, AllAmong, AreOctets, IsInOctets, IsValueOf, param_octets, value_octets}
+use Rattle.hk_base.specs.Spelling.{Reads, AllRead, AllStand, AllAmong, AreOctets, IsValueOf, param_octets, value_octets}
 use Rattle.hk_base.specs.declared.types.Param.{Param}
 use Rattle.hk_base.specs.declared.types.BodyFault.{BodyFault}
 use Rattle.hk_base.specs.declared.types.BodyFault.TheVariants.{WrongValue, UnknownParam}
 use Rattle.hk_base.proofs.ReadingLemmas.{reads-check, reads-uint}
 use Rattle.hk_base.proofs.ValueLemmas.{reads-value}
-use Rattle.hk_base.proofs.FitLemmas.{fits-in_octets, parameter-fit}
 use Rattle.hk_base.proofs.FitLemmas.{fits-in_octets, parameter-fit, param_known}
-use Rattle.hk_base.proofs.TakingLemmas.{Took, IsSpelled, took-then, took-map, took-check, took-weaken, took-octets, took-uint, value-spelled, no_fault}
+use Rattle.hk_base.proofs.TakingLemmas.{Took, IsSpelled, took-map, took-check, took-weaken, took-octets, took-uint, value-spelled, no_fault}
 
 -- an ID of which a check finds no fault
 abbrev pub id_field : TailoringParts → (List ℕ → ℕ → Option BodyFault) → List ℕ → List ℕ → Read ℕ
@@ -56,7 +53,6 @@ pub ids_stand : (fault : List ℕ → ℕ → Option BodyFault) (earlier ids : L
 ids_stand fault earlier [] all = tt
 ids_stand fault earlier (id ∷ ids) all = (all.0, ids_stand fault (id ∷ earlier) ids all.1)
 
-known_fits : (o : Option Param) (p : Param) (v : ℤ) → o ≡ Some p → IfSome o (λ q. IsTrue (fits q v)) → fits p v ≡ true
 -- what a parameter can have fits it
 pub known_fits : (o : Option Param) (p : Param) (v : ℤ) → o ≡ Some p → IfSome o (λ q. IsTrue (fits q v)) → fits p v ≡ true
 known_fits o p v e is = subst (λ x. IfSome x (λ q. IsTrue (fits q v))) e is

@@ -1,15 +1,15 @@
 -- Numbers of octets, and halves of powers of two.
-use Rattle.std.proofs.Common.{◌≡◌, ◌<◌, ◌≤◌, ◌+◌, ◌-◌, ◌*◌, ◌/◌, ◌^◌, ◌%◌, ℕ, zero, suc, ℤ, pos, negsuc, Bool, true, false, List, [], ◌∷◌, length, take, drop, get_or, refl, sym, ap, subst, arith, ◌∙◌}
-use Rattle.std.specs.Prelude.{nat_lt, if◌then◌else◌}
-use Rattle.std.specs.Int.{bytes_high_first, byte_at, cast_unsigned, w128}
+use Rattle.std.proofs.Common.{◌≡◌, ◌<◌, ◌≤◌, ◌+◌, ◌-◌, ◌*◌, ◌/◌, ◌^◌, ◌%◌, ℕ, zero, suc, ℤ, pos, negsuc, true, false, List, [], ◌∷◌, length, take, drop, get_or, refl, sym, ap, subst, arith, ◌∙◌}
+use Rattle.std.specs.Prelude.{nat_lt}
+use Rattle.std.specs.Int.{bytes_high_first, cast_unsigned, w128}
 use Rattle.std.specs.Int.Digits.{number_from_digits, number_from_digits_after, AllBelowBase}
 use Rattle.std.proofs.lemmas.Int.Digits.{number_lt, number_more}
 use Rattle.std.proofs.lemmas.Nat.{one_shl, pow-add}
 use Rattle.std.proofs.lemmas.Bool.Decides.{nat_tests}
 use Rattle.std.proofs.Math.Nat.{pow-le-pow_right, pow-zero, pow-suc, pow-succ', mul-add-div_right, mul-add-mod_self_right}
-use Rattle.std.proofs.lemmas.List.{length-take, take_all, length-take-le, get_or-take}
+use Rattle.std.proofs.lemmas.List.{length-take, take_all, length-take-le}
 use Rattle.hk_base.specs.Fields.{FitsSignedOctets, digits, number, number_of, octets_of, signed_octets_of, signed_of, twos_complement}
-use Rattle.hk_base.proofs.FieldLemmas.{length-digits, pow_pos}
+use Rattle.hk_base.proofs.FieldLemmas.{pow_pos}
 
 -- each is an octet
 abbrev pub IsBytes : List ℕ → Type 0

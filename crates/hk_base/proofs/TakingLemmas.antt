@@ -1,5 +1,5 @@
 -- What is read stood at the front of the octets, in its one spelling.
-use Rattle.std.proofs.Common.{arith, ◌≡◌, refl, sym, ap, subst, ◌∙◌, ℕ, zero, suc, ◌+◌, ◌-◌, ◌*◌, ◌/◌, ◌%◌, ◌^◌, ◌<◌, ◌≤◌, List, [], ◌∷◌, ◌++◌, length, take, drop, append-nil, append_assoc, take-append-drop, Bool, true, false, cond, Option, Some, None, Result, Ok, Err, ℤ, pos, negsuc}
+use Rattle.std.proofs.Common.{arith, ◌≡◌, refl, sym, ap, subst, ◌∙◌, ℕ, zero, suc, ◌+◌, ◌-◌, ◌*◌, ◌/◌, ◌%◌, ◌^◌, ◌<◌, ◌≤◌, List, [], ◌∷◌, ◌++◌, length, take, drop, append-nil, append_assoc, take-append-drop, Bool, true, false, Option, Some, None, Result, Ok, Err}
 use Rattle.std.specs.Prelude.{◌==◌, ⊤, nat_lt, flat_map, find, option_map, if◌then◌else◌}
 use Rattle.std.specs.List.{AllByRecursion}
 use Rattle.std.specs.Option.{option_or}
@@ -9,14 +9,13 @@ use Rattle.std.proofs.lemmas.List.{length-take-le}
 use Rattle.std.proofs.lemmas.Bool.Decides.{nat_tests, Decides-eqb}
 use Rattle.std.proofs.lemmas.Option.{none-some, same_Some}
 use Rattle.hk_base.specs.TailoringParts.{TailoringParts}
-use Rattle.hk_base.specs.Fields.{digits, number, octets_of, number_of, twos_complement, signed_of, signed_octets_of, signed_number_of}
+use Rattle.hk_base.specs.Fields.{digits, octets_of, number_of, signed_of, signed_octets_of}
 use Rattle.hk_base.specs.Reading.{Read, then_read, with_check, fault_if, whole_body, octets_field, uint, list_of, count_fault, count_field, counted_list, flag_field, form_number, body_of}
 use Rattle.hk_base.specs.Spelling.{AreOctets, AllAmong, IsCount, IsInOctets, counted_octets, flag_octets}
 use Rattle.hk_base.specs.declared.types.BodyFault.{BodyFault}
 use Rattle.hk_base.specs.declared.types.BodyFault.TheVariants.{Short, Status, ZeroCount, TooMany}
 use Rattle.hk_base.specs.declared.types.Form.{Form}
 use Rattle.hk_base.specs.declared.types.Form.TheVariants.{Unsigned, Signed, Enumerated, Boolean}
-use Rattle.hk_base.proofs.FieldLemmas.{pow_pos}
 use Rattle.hk_base.proofs.Numbers.{digits_below, pow_of_octets, signed_of-below, signed_of-above}
 
 -- what was read, and the text in front that it stood in
@@ -78,9 +77,6 @@ took-octets count octets are = go (nat_lt (length octets) count) refl
         → Took (λ field text. (text ≡ field) × (length field ≡ count) × AreOctets field) octets (if b then Err Short else Ok (take count octets, drop count octets))
     go true e = tt
     go false e =
-        let enough : count ≤ length octets = grind (arith, nat_tests) in
-        (take count octets, sym (take-append-drop count octets), (refl, length-take-le count octets enough,
-        AreOctets-before (take count octets) (drop count octets) (subst AreOctets (sym (take-append-drop count octets)) are)))
         let enough : count ≤ length octets = grind (arith, nat_tests) in (
           take count octets,
           sym (take-append-drop count octets),
@@ -206,9 +202,6 @@ took-counted t least member spell Stands each octets are =
     (λ xs more. (text ++ more ≡ counted_octets t spell xs) × IsCount t least (length xs) × AllAmong Stands [] xs) rest
     (list_of member n [] rest)
     (took-list member spell Stands each n [] rest are_rest)
-    (λ xs more g.
-    (ap (λ a. a ++ more) h.0.0 ∙ ap (λ k. octets_of t.widths.count_octets k ++ more) (sym g.1) ∙ ap (λ b. octets_of t.widths.count_octets (length xs) ++ b) g.0,
-    subst (IsCount t least) (sym g.1) (count_stands t least n h.0.1 h.1), g.2)))
     (λ xs more g. (
       ap (λ a. a ++ more) h.0.0 ∙ ap (λ k. octets_of t.widths.count_octets k ++ more) (sym g.1) ∙ ap (λ b. octets_of t.widths.count_octets (length xs) ++ b) g.0,
       subst (IsCount t least) (sym g.1) (count_stands t least n h.0.1 h.1),

@@ -1,5 +1,5 @@
 -- Which tailorings are fit: the ranges of widths, parameters and boot structures.
-use Rattle.std.specs.Prelude.{◌≡◌, ℕ, ◌+◌, ◌-◌, ◌*◌, ◌/◌, ◌^◌, ◌<◌, ◌≤◌, ⊤, length, pos, ◌≤ℤ◌, ◌<ℤ◌, Bool, IsTrue, MatchBool, IfSome, map, nat_eq}
+use Rattle.std.specs.Prelude.{◌≡◌, ℕ, ◌+◌, ◌-◌, ◌*◌, ◌/◌, ◌^◌, ◌<◌, ◌≤◌, ⊤, length, pos, ◌≤ℤ◌, ◌<ℤ◌, IsTrue, MatchBool, IfSome, map, nat_eq}
 use Rattle.std.specs.List.{AllByRecursion, IsDistinct}
 use Rattle.hk_base.specs.Payload.{IsValid}
 use Rattle.hk_base.specs.Parameters.{fits, key_eq}

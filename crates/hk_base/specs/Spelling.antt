@@ -1,5 +1,5 @@
 -- Writing the fields of a body. Each value has one spelling, from which the readers read it back.
-use Rattle.std.specs.Prelude.{◌≡◌, ℕ, suc, ◌+◌, ◌*◌, ◌^◌, ◌<◌, ◌≤◌, List, [], ◌∷◌, ◌++◌, length, flat_map, ℤ, pos, negsuc, Bool, true, false, ⊤, Ok, Option, None, IfSome, IsTrue}
+use Rattle.std.specs.Prelude.{◌≡◌, ℕ, ◌+◌, ◌^◌, ◌<◌, ◌≤◌, List, [], ◌∷◌, ◌++◌, length, flat_map, ℤ, pos, negsuc, Bool, true, false, ⊤, Ok, Option, None, IfSome, IsTrue}
 use Rattle.std.specs.List.{AllByRecursion}
 use Rattle.std.specs.Option.{option_map_or}
 use Rattle.hk_base.specs.TailoringParts.{TailoringParts}
@@ -8,7 +8,7 @@ use Rattle.hk_base.specs.Parameters.{parameter, fits}
 use Rattle.hk_base.specs.Reading.{Read}
 use Rattle.hk_base.specs.declared.types.BodyFault.{BodyFault}
 use Rattle.hk_base.specs.declared.types.Form.{Form}
-use Rattle.hk_base.specs.declared.types.Form.TheVariants.{Unsigned, Signed, Enumerated, Boolean}
+use Rattle.hk_base.specs.declared.types.Form.TheVariants.{Signed}
 
 -- a reader reads these octets as a value, whatever follows them
 abbrev pub Reads : {A : Type 0} → (List ℕ → Read A) → List ℕ → A → Type 0

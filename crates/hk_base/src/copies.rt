@@ -10,7 +10,7 @@ use std::alloc::Global;
 trait Copyable {
     fn copied(&self, alloc: Global) -> Result<Self, Memory>
     where
-        Self: Sized
+        Self: Sized,
         ensures { IfOk result (λ copy. copy ≡ self.now) };
 }
 

@@ -1,6 +1,6 @@
 use Rattle.std.proofs.Common.{take, length, arith}
 use Rattle.std.proofs.lemmas.List.{length-take}
-use Rattle.hk_base.proofs.Numbers.{IsBytes, IsBytes-take, number_bound, number_of_more, one_more_fits}
+use Rattle.hk_base.proofs.Numbers.{IsBytes-take, number_bound, number_of_more, one_more_fits}
 use Rattle.hk_base.proofs.fields.big_endian.Goals as goal
 
 pub overflow_mul-value : goal.overflow_mul-value

@@ -1,4 +1,4 @@
-use Rattle.std.proofs.Common.{◌≡◌, ◌*◌, ℕ, length, take, arith, ap, ◌∙◌, sym, rules, FitsSigned}
+use Rattle.std.proofs.Common.{◌*◌, ℕ, take, arith, ap, ◌∙◌, sym, rules, FitsSigned}
 use Rattle.std.specs.Int.{w128}
 use Rattle.std.proofs.lemmas.Int.{to_z-of_z}
 use Rattle.hk_base.specs.Fields.{number_of, signed_of}

@@ -1,4 +1,4 @@
-use Rattle.std.proofs.Common.{◌≡◌, ◌++◌, ℕ, ℤ, List, ◌-◌, take, drop, ap, ◌∙◌}
+use Rattle.std.proofs.Common.{◌++◌, ℕ, ℤ, ◌-◌, take, drop, ap, ◌∙◌}
 use Rattle.std.specs.Int.{w128, to_be_bytes, cast_unsigned}
 use Rattle.std.proofs.lemmas.Int.{to_z-of_z}
 use Rattle.hk_base.proofs.Numbers.{last_octets, narrow}

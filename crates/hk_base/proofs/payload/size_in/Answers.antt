@@ -1,4 +1,4 @@
-use Rattle.std.proofs.Common.{◌≡◌, ◌+◌, List, ap, arith, take, length, sym, ◌∙◌}
+use Rattle.std.proofs.Common.{◌+◌, List, ap, arith, take, length, sym, ◌∙◌}
 use Rattle.std.proofs.lemmas.List.{take_all}
 use Rattle.hk_base.specs.declared.types.Param.{Param}
 use Rattle.hk_base.specs.declared.types.SuperList.{SuperList}

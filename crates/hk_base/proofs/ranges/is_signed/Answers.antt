@@ -22,7 +22,7 @@ returns-then-half-value c =
     let same : to_z w128 (of_z w128 v) ≡ v = to_z-of_z w128 v within in
     let half : to_z w128 (1 * 2 ^ (bits - 1) % 2 ^ 128) ≡ pos (2 ^ (bits - 1)) = omega (arith, ints, h.half) in
     let high : 2 ^ bits ≡ 2 * 2 ^ (bits - 1) = omega (arith, h.half, h.whole) in
-    let negative : FitsSigned w128 (pos 0 -ℤ pos (2 ^ (bits - 1))) = 
+    let negative : FitsSigned w128 (pos 0 -ℤ pos (2 ^ (bits - 1))) =
     subst (λ (z : ℤ). FitsSigned w128 z) (sym (negated (2 ^ bits) (2 ^ (bits - 1)) high (pow_pos 2 (bits - 1) (omega arith)))) (record { sfits = omega (arith, small, high) }) in
     let least : to_z w128 (of_z w128 (pos 0 -ℤ to_z w128 (1 * 2 ^ (bits - 1) % 2 ^ 128))) ≡ signed_of bits (2 ^ (bits - 1)) =
     ap (λ (z : ℤ). to_z w128 (of_z w128 (pos 0 -ℤ z))) half

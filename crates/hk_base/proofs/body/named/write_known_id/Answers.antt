@@ -1,4 +1,4 @@
-use Rattle.std.proofs.Common.{◌≡◌, ◌<◌, ◌^◌, ℕ, sym, subst}
+use Rattle.std.proofs.Common.{◌<◌, ◌^◌, ℕ, sym, subst}
 use Rattle.hk_base.specs.declared.types.Widths.{Widths}
 use Rattle.hk_base.proofs.FitLemmas.{known_in_octets}
 use Rattle.hk_base.proofs.body.named.write_known_id.Goals as goal

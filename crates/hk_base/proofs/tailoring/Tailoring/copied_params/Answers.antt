@@ -1,6 +1,6 @@
-use Rattle.std.proofs.Common.{◌≡◌, ◌<◌, List, [], ◌∷◌, ◌++◌, take, length, Some, ap, sym, arith, ◌∙◌}
+use Rattle.std.proofs.Common.{◌<◌, List, [], ◌∷◌, ◌++◌, take, length, ap, sym, arith, ◌∙◌}
 use Rattle.std.proofs.lemmas.List.{take_more}
-use Rattle.std.proofs.lemmas.Option.{get_or_from_slice_get, slice_get-get_or, none-some}
+use Rattle.std.proofs.lemmas.Option.{get_or_from_slice_get}
 use Rattle.hk_base.specs.declared.types.Param.{Param}
 use Rattle.hk_base.proofs.tailoring.Tailoring.copied_params.Goals as goal
 

@@ -1,0 +1,15 @@
+-- The IDs of rows, in a list that was read.
+use Rattle.std.proofs.Common.{◌≡◌, ◌∙◌, refl, ap, ℕ, List, [], ◌∷◌}
+use Rattle.std.specs.Prelude.{reverse, ◌==◌, ◌||◌}
+use Rattle.std.specs.List.{list_any}
+use Rattle.hk_base.proofs.ListReading.{list_any-reverse}
+use Rattle.st04_grammar.specs.Spelling.{ids_of}
+use Rattle.st04_grammar.specs.declared.bodies.StatRow.{StatRow}
+
+among : (id : ℕ) (xs : List StatRow) → list_any (λ (x : StatRow). x.param == id) xs ≡ list_any (λ e. e == id) (ids_of xs)
+among id [] = refl
+among id (x ∷ xs) = ap (λ b. x.param == id || b) (among id xs)
+
+-- whether an ID is one of them, in whatever order
+pub listed : (id : ℕ) (xs : List StatRow) → list_any (λ (x : StatRow). x.param == id) xs ≡ list_any (λ e. e == id) (ids_of (reverse xs))
+listed id xs = list_any-reverse (λ (x : StatRow). x.param == id) xs ∙ among id (reverse xs)

@@ -1,4 +1,4 @@
-use Rattle.std.proofs.Common.{◌≡◌, lit≤, lit<, refl, sym, subst, List, [], ◌∷◌, pos, negsuc}
+use Rattle.std.proofs.Common.{lit≤, lit<, refl, sym, subst, List, [], ◌∷◌, negsuc}
 use Rattle.hk_base.specs.TailoringParts.{TailoringParts}
 use Rattle.hk_base.specs.Builtin.{builtin}
 use Rattle.st04_grammar.specs.Spelling.{IsRow, IsStatistics}

@@ -2,7 +2,7 @@
 use Rattle.std.proofs.Common.{◌≡◌, refl, sym, ap, subst, ◌∙◌, List, [], ◌∷◌, ◌++◌, Bool, true, false, cond, Option, Some, None, Result, Ok, Err}
 use Rattle.std.specs.Result.{IsErrAnd}
 use Rattle.std.specs.Option.{option_or}
-use Rattle.hk_tailoring.specs.Checks.{Check, first_fault, Answers}
+use Rattle.hk_tailoring.specs.Checks.{Check, first_fault, Answers, Passes}
 use Rattle.hk_tailoring.specs.declared.fault.TailoringFault.{TailoringFault}
 use Rattle.hk_tailoring.specs.declared.fault.TailoringFault.TheVariants.{Memory}
 
@@ -58,4 +58,10 @@ pub passed-here : (whole rest here more : List Check)
 passed-here whole rest here more same parts h = sym (sym same ∙ (ap first_fault parts ∙ first_fault-passed here more h))
 
 -- checks one after the other
-pub ruleset in_order = (first_fault-passed, first_fault-stopped)
+pub ruleset in_order = (first_fault-append, first_fault-passed, first_fault-stopped)
+
+-- the exit of a `?`, where the checks so far have that fault
+pub passes-exit : {A : Type 0} (cs : List Check) (r : Result A TailoringFault) (fault : TailoringFault)
+    → IsErrAnd r (λ y. y ≡ fault) → (¬ (fault ≡ Memory) → first_fault cs ≡ Some fault) → Passes cs r
+passes-exit cs (Ok y) fault h stops = absurd h
+passes-exit cs (Err e) fault h stops = rw h stops

@@ -1,2 +1,4 @@
 pub mod CheckLemmas
 pub mod ListLemmas
+pub mod KnownLemmas
+pub mod NumberLemmas

@@ -3,6 +3,7 @@ use Rattle.std.proofs.Common.{◌≡◌, refl, ap, sym, ◌∙◌, List, [], ◌
 use Rattle.std.proofs.lemmas.Int.{ints}
 use Rattle.std.proofs.Math.Nat.{one-le-pow}
 use Rattle.std.proofs.lemmas.List.{drop_more}
+use Rattle.std.proofs.lemmas.List.Folds.{list_all-map}
 use Rattle.std.specs.Prelude.{filter_map}
 use Rattle.std.specs.List.{list_all, cons_option, AllByRecursion}
 use Rattle.toml.specs.Data.{Data, as_table}
@@ -17,11 +18,6 @@ use Rattle.hk_tailoring.specs.Keys.{Section, values_of, list_of, table_list_of, 
 pub values_of-items_of : (ds : List Data) → values_of (items_of ds) ≡ ds
 values_of-items_of [] = refl
 values_of-items_of (d ∷ ds) = ap (λ rest. d ∷ rest) (values_of-items_of ds)
-
--- a test of each member of a list, as it is seen
-pub list_all-map : {X Y : Type 0} (test : Y → Bool) (f : X → Y) (xs : List X) → list_all test (map f xs) ≡ list_all (λ x. test (f x)) xs
-list_all-map test f [] = refl
-list_all-map test f (x ∷ xs) = ap (λ b. test (f x) && b) (list_all-map test f xs)
 
 -- a list whose members are tables or not, as the code tells
 pub table_list_of-list : (d : Data) (vs : List Value) (tables : Bool) → list_of d ≡ Some (map view vs)

@@ -27,6 +27,6 @@ Answers view cs x (Ok a) = (first_fault cs ≡ None) × (view a ≡ x)
 Answers view cs x (Err fault) = ¬ (fault ≡ Memory) → first_fault cs ≡ Some fault
 
 -- An answer is Ok where all checks are met, else the first fault, or there was no memory.
-abbrev pub Passes : List Check → Result Unit TailoringFault → Type 0
-Passes cs (Ok u) = first_fault cs ≡ None
+abbrev pub Passes : {A : Type 0} → List Check → Result A TailoringFault → Type 0
+Passes cs (Ok x) = first_fault cs ≡ None
 Passes cs (Err fault) = ¬ (fault ≡ Memory) → first_fault cs ≡ Some fault

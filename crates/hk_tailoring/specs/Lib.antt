@@ -1,2 +1,5 @@
 pub mod Checks
 pub mod Keys
+pub mod Known
+pub mod Widths
+pub mod Params

@@ -163,7 +163,7 @@ impl Section<'_> {
     /// A flag, false where the key is missing.
     #[tactic(auto, unfolding(crate::specs::Keys::flag_checks, crate::specs::Keys::flag_at))]
     pub fn flag(&self, key: &str) -> Result<bool, TailoringFault>
-        ensures { Answers (λ flag. flag) (flag_checks (section_of self.now) key.now) (flag_at (section_of self.now) key.now) result }
+        ensures flag { Answers (λ flag. flag) (flag_checks (section_of self.now) key.now) (flag_at (section_of self.now) key.now) result }
     {
         let Some(value) = self.value(key) else {
             return Ok(false);

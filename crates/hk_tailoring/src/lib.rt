@@ -3,7 +3,10 @@
 
 mod fault;
 mod keys;
+mod known;
 mod lists;
+mod params;
 mod section;
+mod widths;
 
 pub use fault::TailoringFault;

@@ -1,6 +1,6 @@
 //! The lists of a table: how many members they have, and which.
 ghost use Rattle.std.specs.Prelude.{◌≡◌, ◌≤◌, ◌<◌, ◌^◌, ◌-◌, ◌≤ℤ◌, ◌<ℤ◌, ◌++◌, ◌∷◌, [], OnOk, ℕ, List, map, length, is_some, true, Some, None, IfSome, IfOk, option_map, filter_map, pos};
-ghost use Rattle.std.specs.List.{list_all, AllByRecursion};
+ghost use Rattle.std.specs.List.{list_all, AllPass, AllByRecursion};
 ghost use Rattle.toml.specs.Data.{as_table};
 ghost use Rattle.toml.specs.View.{view, items_view};
 ghost use Rattle.hk_tailoring.specs.Checks.{Answers, Passes, IsUnlessMemory};
@@ -49,6 +49,7 @@ impl Section<'_> {
     /// A list of so many tables that may be missing, and is empty then.
     #[tactic(auto, unfolding(crate::specs::Keys::tables_checks, crate::specs::Keys::list_at))]
     pub fn tables(&self, key: &str, low: usize, high: usize) -> Result<&[Value], TailoringFault>
+        ensures tables { IfOk result (λ values. AllPass (λ value. is_some (as_table (view value))) values.now) }
         ensures values { Answers (λ values. map view values.now) (tables_checks (section_of self.now) key.now low high) (list_at (section_of self.now) key.now) result }
         ensures few { IfOk result (λ values. length values.now ≤ high) }
         ensures many { is_some (at_key (section_of self.now) key.now) ≡ true → IfOk result (λ values. low ≤ length values.now) }
@@ -66,6 +67,7 @@ impl Section<'_> {
     /// A list of so many tables that must be there.
     #[tactic(auto, unfolding(crate::specs::Keys::needed_tables_checks))]
     pub fn needed_tables(&self, key: &str, low: usize, high: usize) -> Result<&[Value], TailoringFault>
+        ensures tables { IfOk result (λ values. AllPass (λ value. is_some (as_table (view value))) values.now) }
         ensures values { Answers (λ values. map view values.now) (needed_tables_checks (section_of self.now) key.now low high) (list_at (section_of self.now) key.now) result }
         ensures within { IfOk result (λ values. (low ≤ length values.now) × (length values.now ≤ high)) }
     {
@@ -188,6 +190,7 @@ fn list_of(value: &Value) -> Option<&[Value]>
 /// The values of a list that has tables alone.
 fn table_list_of(value: &Value) -> Option<&[Value]>
     ensures tables { option_map (λ values. map view values.now) result ≡ keys.table_list_of (view value.now) }
+    ensures each { IfSome result (λ values. AllPass (λ value. is_some (as_table (view value))) values.now) }
     ensures list { IfSome result (λ values. keys.list_of (view value.now) ≡ Some (map view values.now)) }
 {
     let values = list_of(value)?;

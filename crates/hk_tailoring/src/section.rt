@@ -12,8 +12,19 @@ pub enum Place {
 }
 
 /// A table of a document.
+#[derive(Clone, Copy)]
 pub struct Section<'a> {
     pub alloc: Global,
     pub place: Place,
     pub table: &'a Table,
+}
+
+/// A kind of table, by the keys that it may have: those of a parameter depend on whether its values are packed,
+/// and on whether they are listed.
+#[derive(Clone, Copy, Debug, Drop)]
+pub enum TableKind {
+    Document,
+    Parameter { packed: bool, enumerated: bool },
+    Structure,
+    Array,
 }

@@ -2,3 +2,5 @@ pub mod CheckLemmas
 pub mod ListLemmas
 pub mod KnownLemmas
 pub mod NumberLemmas
+pub mod SectionLemmas
+pub mod ParamLemmas

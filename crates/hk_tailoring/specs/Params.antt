@@ -104,9 +104,13 @@ param_in packed s =
       initial = number_at s (codes "initial");
     }
 
--- a table of a list, with its place
+-- a table that stands at a place
+abbrev pub place_section : Place → Data → Option Section
+place_section place d = option_map (λ members. record { place = place; members = members }) (as_table d)
+
+-- a table of a list, with its number
 abbrev pub section_at : (ℕ → Place) → ℕ × Data → Option Section
-section_at place (n, d) = option_map (λ members. record { place = place n; members = members }) (as_table d)
+section_at place (n, d) = place_section (place n) d
 
 -- the tables of a list, from this place on
 abbrev pub sections : (ℕ → Place) → ℕ → List Data → List Section
@@ -116,9 +120,12 @@ sections place n ds = filter_map (section_at place) (enumerate_from n ds)
 abbrev pub repeat_check : List Param → Param → Check
 repeat_check earlier p = check (RepeatedParam p.id) (not (list_any (λ e. e.id == p.id) earlier))
 
+-- the checks of a parameter after those that stand before it
+unfoldable pub next_param_checks : ℕ → Bool → List Param → Section → List Check
+next_param_checks octets packed earlier s = param_checks octets packed s ++ repeat_check earlier (param_in packed s) ∷ []
+
 -- the checks of parameters in order, after those that stand before them
 abbrev pub params_checks : ℕ → Bool → List Param → List Section → List Check
 params_checks octets packed earlier [] = []
 params_checks octets packed earlier (s ∷ ss) =
-    (param_checks octets packed s ++ repeat_check earlier (param_in packed s) ∷ [])
-    ++ params_checks octets packed (earlier ++ param_in packed s ∷ []) ss
+    next_param_checks octets packed earlier s ++ params_checks octets packed (earlier ++ param_in packed s ∷ []) ss

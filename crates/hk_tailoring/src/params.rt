@@ -1,6 +1,6 @@
 //! The parameters that a document states.
-ghost use Rattle.std.specs.Prelude.{◌≡◌, ◌≤◌, ◌<◌, ◌^◌, ◌+◌, ◌*◌, ◌/◌, ◌++◌, ◌∷◌, [], ⊤, IfOk, IfSome, OnOk, OnErr, IsTrue, MatchBool, map, nat_eq, codes, length, is_some};
-ghost use Rattle.std.specs.List.{AllByRecursion, AllPass, IsDistinct};
+ghost use Rattle.std.specs.Prelude.{◌≡◌, ◌≤◌, ◌<◌, ◌^◌, ◌+◌, ◌*◌, ◌/◌, ◌++◌, ◌∷◌, [], ⊤, IfOk, IfSome, OnOk, OnErr, IsTrue, MatchBool, false, ◌==◌, map, nat_eq, codes, length, is_some};
+ghost use Rattle.std.specs.List.{AllByRecursion, AllPass, IsDistinct, list_any};
 ghost use Rattle.toml.specs.Data.{as_table};
 ghost use Rattle.toml.specs.View.{view};
 ghost use Rattle.hk_base.specs.Parameters.{fits as value_fits};
@@ -8,13 +8,14 @@ ghost use Rattle.hk_base.specs.Fit.{IsWithin, IsFitForm, IsFitShape, IsFitParam}
 ghost use Rattle.hk_tailoring.specs.Checks.{Answers, Passes};
 ghost use Rattle.hk_tailoring.specs.Keys.{section_of, number_at};
 ghost use Rattle.hk_tailoring.specs.Params as params;
-ghost use Rattle.hk_tailoring.specs.Params.{form_checks, form_name_in, bits_checks, bits_in, values_checks, form_of, initial_checks, param_checks, param_in, params_checks, repeat_check, sections};
+ghost use Rattle.hk_tailoring.specs.Params.{form_checks, form_name_in, bits_checks, bits_in, values_checks, form_of, initial_checks, param_checks, param_in, next_param_checks, params_checks, sections};
 ghost use Rattle.hk_tailoring.specs.declared.section.Place.TheVariants.{Parameter};
 
 use crate::fault::TailoringFault;
 use crate::keys::greatest_in;
 use crate::section::{Place, Section, TableKind};
 use hk_base::{Form, Param, Widths, fits};
+use std::alloc::Global;
 use toml::Value;
 
 /// The form of a parameter by its name alone.
@@ -147,4 +148,54 @@ fn read_param(section: &Section<'_>, widths: &Widths) -> Result<Param, Tailoring
     })?;
     param.initial = initial;
     Ok(param)
+}
+
+/// Whether a parameter has this ID.
+fn has_id(params: &[Param], id: u32) -> bool
+    ensures { result ≡ list_any (λ e. e.id == id) params.now }
+{
+    params.iter().any(|param| param.id == id)
+}
+
+/// Reads the parameter that a table states, and puts it last.
+#[tactic(auto, unfolding(crate::specs::Params::next_param_checks))]
+fn add_param(
+    params: &mut Vec<Param>,
+    section: &Section<'_>,
+    widths: &Widths,
+) -> Result<(), TailoringFault>
+    requires { IsWithin 1 2 widths.now.parameter_octets }
+    ensures checked { Passes (next_param_checks widths.now.parameter_octets widths.now.packed params.old.items (section_of section.now)) result }
+    ensures added { OnOk result (params.new.items ≡ params.old.items ++ param_in widths.now.packed (section_of section.now) ∷ []) }
+    ensures fit { OnOk result (IsFitParam widths.now (param_in widths.now.packed (section_of section.now))) }
+    ensures other { OnOk result (list_any (λ e. e.id == (param_in widths.now.packed (section_of section.now)).id) params.old.items ≡ false) }
+{
+    let param = read_param(section, widths)?;
+    if has_id(params.as_slice(), param.id) {
+        return Err(TailoringFault::RepeatedParam(param.id));
+    }
+    params.push(param)?;
+    Ok(())
+}
+
+/// The parameters that the tables of a document state.
+pub fn read_params(
+    alloc: Global,
+    widths: &Widths,
+    tables: &[Value],
+) -> Result<Vec<Param>, TailoringFault>
+    requires octets { IsWithin 1 2 widths.now.parameter_octets }
+    requires tables { AllPass (λ value. is_some (as_table (view value))) tables.now }
+    ensures checked { Passes (params_checks widths.now.parameter_octets widths.now.packed [] (sections Parameter 0 (map view tables.now))) result }
+    ensures params { IfOk result (λ params. params.items ≡ map (param_in widths.now.packed) (sections Parameter 0 (map view tables.now))) }
+    ensures count { IfOk result (λ params. length params.items ≡ length tables.now) }
+    ensures fit { IfOk result (λ params. AllByRecursion (IsFitParam widths.now) params.items) }
+    ensures ids { IfOk result (λ params. IsDistinct nat_eq (map (λ param. param.id) params.items)) }
+{
+    let mut params = Vec::new(alloc);
+    for (n, value) in tables.iter().enumerate() {
+        let section = Section::of_table(alloc, Place::Parameter(n), value);
+        add_param(&mut params, &section, widths)?;
+    }
+    Ok(params)
 }

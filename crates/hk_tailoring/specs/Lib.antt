@@ -3,3 +3,5 @@ pub mod Keys
 pub mod Known
 pub mod Widths
 pub mod Params
+pub mod Structures
+pub mod Sizes

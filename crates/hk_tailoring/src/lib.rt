@@ -1,6 +1,7 @@
 //! Tailoring files: the order in which a document is checked, and what it stands for.
 #![tactic(auto)]
 
+mod arrays;
 mod fault;
 mod keys;
 mod known;

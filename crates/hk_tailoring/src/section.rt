@@ -15,6 +15,20 @@ pub enum Place {
     Array(usize, usize),
 }
 
+impl Place {
+    ghost use Rattle.hk_tailoring.specs.Structures.{array_place};
+
+    /// The place of an array with this number in the structure at this place.
+    pub fn array(self, n: usize) -> Place
+        ensures { result ≡ array_place self n }
+    {
+        match self {
+            Place::Structure(at) => Place::Array(at, n),
+            other => other,
+        }
+    }
+}
+
 /// A table of a document.
 #[derive(Clone, Copy)]
 pub struct Section<'a> {

@@ -1,0 +1,18 @@
+-- What is known of the parts of a tailoring as they are read, before all of it is.
+use Rattle.std.specs.Prelude.{◌≤◌, ◌<◌, ◌^◌, length}
+use Rattle.hk_base.specs.Fit.{IsWithin}
+use Rattle.hk_base.specs.declared.types.Widths.{Widths}
+use Rattle.hk_base.specs.declared.types.SuperList.{SuperList}
+
+-- the octets of identifiers and of repetition numbers are in their ranges
+pub record AreIdOctets (w : Widths) : Type 0 where
+  pub structure : IsWithin 1 2 w.structure_octets
+  pub parameter : IsWithin 1 2 w.parameter_octets
+  pub repetition : IsWithin 1 2 w.repetition_octets
+
+-- an array that is fit, as far as it doesn't depend on the parameters and on the interval
+pub record IsFitArray (w : Widths) (a : SuperList) : Type 0 where
+  pub members : 1 ≤ length a.params
+  pub few : length a.params ≤ 255
+  pub repeated : 1 ≤ a.repetition
+  pub field : a.repetition < 256 ^ w.repetition_octets

@@ -4,3 +4,4 @@ pub mod KnownLemmas
 pub mod NumberLemmas
 pub mod SectionLemmas
 pub mod ParamLemmas
+pub mod ArrayLemmas

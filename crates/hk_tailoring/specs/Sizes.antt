@@ -1,5 +1,5 @@
 -- What is known of the parts of a tailoring as they are read, before all of it is.
-use Rattle.std.specs.Prelude.{◌≤◌, ◌<◌, ◌^◌, length}
+use Rattle.std.specs.Prelude.{ℕ, List, ◌≤◌, ◌<◌, ◌^◌, length}
 use Rattle.hk_base.specs.Fit.{IsWithin}
 use Rattle.hk_base.specs.declared.types.Widths.{Widths}
 use Rattle.hk_base.specs.declared.types.SuperList.{SuperList}
@@ -16,3 +16,7 @@ pub record IsFitArray (w : Widths) (a : SuperList) : Type 0 where
   pub few : length a.params ≤ 255
   pub repeated : 1 ≤ a.repetition
   pub field : a.repetition < 256 ^ w.repetition_octets
+
+-- so many IDs
+abbrev pub IsFitList : List ℕ → Type 0
+IsFitList ids = length ids ≤ 255

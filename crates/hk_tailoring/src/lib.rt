@@ -2,6 +2,7 @@
 #![tactic(auto)]
 
 mod arrays;
+mod definitions;
 mod fault;
 mod keys;
 mod known;

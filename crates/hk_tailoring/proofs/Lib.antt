@@ -5,3 +5,4 @@ pub mod NumberLemmas
 pub mod SectionLemmas
 pub mod ParamLemmas
 pub mod ArrayLemmas
+pub mod DefinitionLemmas

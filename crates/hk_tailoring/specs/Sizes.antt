@@ -1,8 +1,10 @@
 -- What is known of the parts of a tailoring as they are read, before all of it is.
-use Rattle.std.specs.Prelude.{ℕ, List, ◌≤◌, ◌<◌, ◌^◌, length}
+use Rattle.std.specs.Prelude.{◌≤◌, ◌<◌, ◌^◌, length}
 use Rattle.hk_base.specs.Fit.{IsWithin}
 use Rattle.hk_base.specs.declared.types.Widths.{Widths}
 use Rattle.hk_base.specs.declared.types.SuperList.{SuperList}
+use Rattle.hk_base.specs.declared.types.Definition.{Definition}
+use Rattle.std.specs.List.{AllByRecursion}
 
 -- the octets of identifiers and of repetition numbers are in their ranges
 pub record AreIdOctets (w : Widths) : Type 0 where
@@ -17,6 +19,9 @@ pub record IsFitArray (w : Widths) (a : SuperList) : Type 0 where
   pub repeated : 1 ≤ a.repetition
   pub field : a.repetition < 256 ^ w.repetition_octets
 
--- so many IDs
-abbrev pub IsFitList : List ℕ → Type 0
-IsFitList ids = length ids ≤ 255
+-- a definition that is fit, as far as it doesn't depend on the parameters
+pub record IsFitDefinition (w : Widths) (d : Definition) : Type 0 where
+  pub interval : IsWithin 1 w.max_interval d.interval
+  pub simple : length d.simple ≤ 255
+  pub few_arrays : length d.arrays ≤ 255
+  pub arrays : AllByRecursion (IsFitArray w) d.arrays

@@ -6,6 +6,7 @@ use Rattle.hk_base.specs.Definitions.{parameter_ids}
 use Rattle.hk_base.specs.Parameters.{key_eq}
 use Rattle.hk_base.specs.Payload.{payload_size}
 use Rattle.hk_base.specs.declared.types.Widths.{Widths}
+use Rattle.hk_base.specs.declared.types.TheConstants.{BUILTIN_WIDTHS}
 use Rattle.hk_base.specs.declared.types.Param.{Param}
 use Rattle.hk_base.specs.declared.types.Kind.{Kind}
 use Rattle.hk_base.specs.declared.types.Kind.TheVariants.{Housekeeping, Diagnostic}
@@ -132,16 +133,23 @@ abbrev pub is_empty_list : List ℕ → Bool
 is_empty_list [] = true
 is_empty_list (id ∷ ids) = false
 
--- the octets of a payload, by the parameters alone
-abbrev pub size_by : Widths → List Param → Definition → ℕ
-size_by w params d = payload_size (record { widths = w; params = params; boots = [] }) d
+-- the octets of a payload, which rest on the parameters alone
+abbrev pub size_of : List Param → Definition → ℕ
+size_of params d = payload_size (record { widths = BUILTIN_WIDTHS; params = params; boots = [] }) d
+
+-- a definition isn't too wide
+abbrev pub width_check : ℕ → List Param → Definition → Check
+width_check most params d = check (TooWide (size_of params d)) (nat_le (size_of params d) most)
+
+-- there is a parameter
+abbrev pub some_check : Section → Definition → Check
+some_check s d = check (OutOfRange (path_of s (codes "simple")) (pos 0)) (not (is_empty_list (parameter_ids d)))
 
 -- the checks of a definition in a structure's section
-unfoldable pub definition_checks : Bounds → List Param → (Definition → ℕ) → Section → Definition → List Check
-definition_checks b params size s d =
-    check (OutOfRange (path_of s (codes "simple")) (pos 0)) (not (is_empty_list (parameter_ids d))) ∷ []
-    ++ (ids_checks params [] (parameter_ids d)
-    ++ (repetition_checks d.interval d.arrays ++ check (TooWide (size d)) (nat_le (size d) b.max_payload) ∷ []))
+unfoldable pub definition_checks : Bounds → List Param → Section → Definition → List Check
+definition_checks b params s d =
+    some_check s d ∷ []
+    ++ (ids_checks params [] (parameter_ids d) ++ (repetition_checks d.interval d.arrays ++ width_check b.max_payload params d ∷ []))
 
 -- no structure before has this key
 abbrev pub key_check : List Boot → Boot → Check

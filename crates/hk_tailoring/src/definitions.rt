@@ -6,8 +6,8 @@ ghost use Rattle.hk_base.specs.Fit.{IsFitWidths, IsFitParam, IsWithin};
 ghost use Rattle.hk_base.specs.Payload.{IsValid};
 ghost use Rattle.hk_tailoring.specs.Checks.{Passes};
 ghost use Rattle.hk_tailoring.specs.Keys.{section_of};
-ghost use Rattle.hk_tailoring.specs.Sizes.{IsFitArray, IsFitList};
-ghost use Rattle.hk_tailoring.specs.Structures.{bounds_of, id_checks, ids_checks, repetition_check, repetition_checks, definition_checks, size_by};
+ghost use Rattle.hk_tailoring.specs.Sizes.{IsFitDefinition};
+ghost use Rattle.hk_tailoring.specs.Structures.{bounds_of, id_checks, ids_checks, repetition_checks, width_check, definition_checks, size_of};
 
 use crate::fault::TailoringFault;
 use crate::section::Section;
@@ -66,5 +66,50 @@ fn check_repetitions(interval: u32, arrays: &[SuperList]) -> Result<(), Tailorin
             return Err(TailoringFault::BadRepetition(array.repetition, interval));
         }
     }
+    Ok(())
+}
+
+/// The values of a report have at most so many octets as are allowed.
+fn check_size(
+    widths: &Widths,
+    params: &[Param],
+    def: &Definition,
+) -> Result<(), TailoringFault>
+    requires widths { IsFitWidths widths.now }
+    requires params { AllByRecursion (IsFitParam widths.now) params.now }
+    requires formed { IsWellFormed (record { widths = widths.now; params = params.now; boots = [] }) def.now }
+    ensures checked { Passes (width_check widths.now.max_payload params.now def.now ∷ []) result }
+    ensures narrow { OnOk result (size_of params.now def.now ≤ widths.now.max_payload) }
+{
+    let size = payload_size(widths, params, def);
+    if size <= widths.max_payload {
+        Ok(())
+    } else {
+        Err(TailoringFault::TooWide(size))
+    }
+}
+
+/// A definition is valid.
+#[tactic(auto, unfolding(crate::specs::Structures::definition_checks))]
+pub fn check_definition(
+    section: &Section<'_>,
+    widths: &Widths,
+    params: &[Param],
+    def: &Definition,
+) -> Result<(), TailoringFault>
+    requires widths { IsFitWidths widths.now }
+    requires params { AllByRecursion (IsFitParam widths.now) params.now }
+    requires sizes { IsFitDefinition widths.now def.now }
+    ensures checked { Passes (definition_checks (bounds_of widths.now) params.now (section_of section.now) def.now) result }
+    ensures valid { OnOk result (IsValid (record { widths = widths.now; params = params.now; boots = [] }) def.now) }
+{
+    let all = parameter_ids(section.alloc, def)?;
+    let ids = all.as_slice();
+    if ids.is_empty() {
+        return Err(section.out_of_range("simple", 0));
+    }
+    check_ids(params, ids)?;
+    check_repetitions(def.interval, def.arrays.as_slice())?;
+    check_size(widths, params, def)?;
     Ok(())
 }

@@ -9,6 +9,7 @@ mod known;
 mod lists;
 mod params;
 mod section;
+mod structures;
 mod widths;
 
 pub use fault::TailoringFault;

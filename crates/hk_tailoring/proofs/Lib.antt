@@ -6,3 +6,4 @@ pub mod SectionLemmas
 pub mod ParamLemmas
 pub mod ArrayLemmas
 pub mod DefinitionLemmas
+pub mod StructureLemmas

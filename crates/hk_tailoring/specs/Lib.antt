@@ -5,3 +5,4 @@ pub mod Widths
 pub mod Params
 pub mod Structures
 pub mod Sizes
+pub mod Files

@@ -6,12 +6,6 @@ use Rattle.hk_base.specs.declared.types.SuperList.{SuperList}
 use Rattle.hk_base.specs.declared.types.Definition.{Definition}
 use Rattle.std.specs.List.{AllByRecursion}
 
--- the octets of identifiers and of repetition numbers are in their ranges
-pub record AreIdOctets (w : Widths) : Type 0 where
-  pub structure : IsWithin 1 2 w.structure_octets
-  pub parameter : IsWithin 1 2 w.parameter_octets
-  pub repetition : IsWithin 1 2 w.repetition_octets
-
 -- an array that is fit, as far as it doesn't depend on the parameters and on the interval
 pub record IsFitArray (w : Widths) (a : SuperList) : Type 0 where
   pub members : 1 ≤ length a.params

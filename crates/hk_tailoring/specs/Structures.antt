@@ -154,3 +154,14 @@ definition_checks b params s d =
 -- no structure before has this key
 abbrev pub key_check : List Boot → Boot → Check
 key_check earlier boot = check (RepeatedStructure boot.key) (not (list_any (λ e. key_eq e.key boot.key) earlier))
+
+-- the checks of a structure after those that stand before it
+unfoldable pub next_structure_checks : Bounds → List Param → List Boot → Section → List Check
+next_structure_checks b params earlier s =
+    structure_key_checks b s ++ (key_check earlier (boot_in s) ∷ [] ++ definition_checks b params s (boot_in s).structure.def)
+
+-- the checks of structures in order, after those that stand before them
+abbrev pub structures_checks : Bounds → List Param → List Boot → List Section → List Check
+structures_checks b params earlier [] = []
+structures_checks b params earlier (s ∷ ss) =
+    next_structure_checks b params earlier s ++ structures_checks b params (earlier ++ boot_in s ∷ []) ss

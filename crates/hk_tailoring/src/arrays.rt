@@ -3,12 +3,12 @@ ghost use Rattle.std.specs.Prelude.{◌≡◌, ◌≤◌, ◌<◌, ◌^◌, ◌�
 ghost use Rattle.std.specs.List.{AllByRecursion, AllPass};
 ghost use Rattle.toml.specs.Data.{as_table};
 ghost use Rattle.toml.specs.View.{view};
-ghost use Rattle.hk_base.specs.Fit.{IsWithin};
+ghost use Rattle.hk_base.specs.Fit.{IsFitWidths};
 ghost use Rattle.hk_tailoring.specs.Checks.{Passes};
 ghost use Rattle.hk_tailoring.specs.Keys.{section_of, list_at};
 ghost use Rattle.hk_tailoring.specs.Params.{sections};
 ghost use Rattle.hk_tailoring.specs.Structures.{bounds_of, array_checks, array_in, array_place, array_sections, arrays_checks};
-ghost use Rattle.hk_tailoring.specs.Sizes.{IsFitArray, AreIdOctets};
+ghost use Rattle.hk_tailoring.specs.Sizes.{IsFitArray};
 
 use crate::fault::TailoringFault;
 use crate::keys::greatest_in;
@@ -19,7 +19,7 @@ use toml::Value;
 /// The array that a table states.
 #[tactic(auto, unfolding(crate::specs::Structures::array_checks))]
 fn read_array(section: &Section<'_>, widths: &Widths) -> Result<SuperList, TailoringFault>
-    requires { AreIdOctets widths.now }
+    requires { IsFitWidths widths.now }
     ensures checked { Passes (array_checks (bounds_of widths.now) (section_of section.now)) result }
     ensures array { IfOk result (λ array. array ≡ array_in (section_of section.now)) }
     ensures fit { IfOk result (IsFitArray widths.now) }
@@ -40,7 +40,7 @@ pub fn read_arrays(
     widths: &Widths,
     tables: &[Value],
 ) -> Result<Vec<SuperList>, TailoringFault>
-    requires octets { AreIdOctets widths.now }
+    requires widths { IsFitWidths widths.now }
     requires tables { AllPass (λ value. is_some (as_table (view value))) tables.now }
     ensures checked { Passes (arrays_checks (bounds_of widths.now) (sections (array_place structure.now.place) 0 (map view tables.now))) result }
     ensures arrays { IfOk result (λ arrays. arrays.items ≡ map array_in (sections (array_place structure.now.place) 0 (map view tables.now))) }

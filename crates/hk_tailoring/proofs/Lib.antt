@@ -7,3 +7,4 @@ pub mod ParamLemmas
 pub mod ArrayLemmas
 pub mod DefinitionLemmas
 pub mod StructureLemmas
+pub mod FileLemmas

@@ -1,5 +1,5 @@
 -- Tailoring files: their checks in order, their first fault, and the tailoring that a file without fault stands for.
-use Rattle.std.specs.Prelude.{◌≡◌, ℕ, List, [], ◌∷◌, ◌++◌, map, Bool, ◌==◌, Option, Some, None, codes, if◌then◌else◌}
+use Rattle.std.specs.Prelude.{◌≡◌, ℕ, List, [], ◌∷◌, ◌++◌, map, Bool, ◌==◌, Option, Some, None, IfSome, IsSome, codes, if◌then◌else◌}
 use Rattle.std.specs.Str.{is_utf8}
 use Rattle.toml.specs.Data.{Members}
 use Rattle.toml.specs.Parse.{parse_document}
@@ -90,3 +90,7 @@ fault_by_tree (Some members) = tree_fault members
 -- the first fault of a file
 abbrev pub file_fault : List ℕ → Option TailoringFault
 file_fault octets = fault_by_tree (tree_of octets)
+
+-- a tailoring is what a file states
+abbrev pub IsOf : List ℕ → TailoringParts → Type 0
+IsOf octets t = IfSome (tree_of octets) (λ members. Stands (document members) t) × IsSome (tree_of octets)

@@ -8,8 +8,10 @@ mod keys;
 mod known;
 mod lists;
 mod params;
+mod file;
 mod section;
 mod structures;
 mod widths;
 
 pub use fault::TailoringFault;
+pub use file::read;

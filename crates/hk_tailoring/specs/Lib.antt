@@ -6,3 +6,4 @@ pub mod Params
 pub mod Structures
 pub mod Sizes
 pub mod Files
+pub mod Texts

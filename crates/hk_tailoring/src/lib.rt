@@ -11,6 +11,7 @@ mod params;
 mod file;
 mod section;
 mod structures;
+mod texts;
 mod widths;
 
 pub use fault::TailoringFault;

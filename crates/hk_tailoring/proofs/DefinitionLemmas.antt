@@ -24,7 +24,7 @@ use Rattle.hk_tailoring.proofs.CheckLemmas.{first_fault-append, stopped-here, pa
 -- the first ID of those that are left, and those after it
 pub ids_checks-step : (params : List Param) (ids : List ℕ) (i : ℕ) → i < length ids
     → ids_checks params (take i ids) (drop i ids)
-      ≡ id_checks params (take i ids) (get_or ids i 0) ++ ids_checks params (take (i + 1) ids) (drop (i + 1) ids)
+    ≡ id_checks params (take i ids) (get_or ids i 0) ++ ids_checks params (take (i + 1) ids) (drop (i + 1) ids)
 ids_checks-step params ids i h =
     ap (λ xs. ids_checks params (take i ids) xs) (drop_more ids i 0 h)
     ∙ ap (λ earlier. id_checks params (take i ids) (get_or ids i 0) ++ ids_checks params earlier (drop (i + 1) ids)) (sym (take_more ids i 0 h))
@@ -122,8 +122,8 @@ once-from params earlier before (id ∷ ids) same none =
     ap (λ b. cond b (Some id) (first_repeat (id ∷ before) ids)) absent
     ∙ once-from params (earlier ++ id ∷ []) (id ∷ before) ids
     (λ x.
-        or-swap (id == x) (list_any (λ e. e == x) before)
-        ∙ (ap (λ b. b || (id == x)) (same x) ∙ (ap (λ b. list_any (λ e. e == x) earlier || b) (sym (or-false (id == x))) ∙ sym (list_any-append (λ e. e == x) earlier (id ∷ [])))))
+    or-swap (id == x) (list_any (λ e. e == x) before)
+    ∙ (ap (λ b. b || (id == x)) (same x) ∙ (ap (λ b. list_any (λ e. e == x) earlier || b) (sym (or-false (id == x))) ∙ sym (list_any-append (λ e. e == x) earlier (id ∷ [])))))
     parts.1
 
 -- arrays whose repetition numbers divide the interval
@@ -131,14 +131,16 @@ pub arrays-from : (t : TailoringParts) (interval : ℕ) (arrays : List SuperList
     → first_fault (repetition_checks interval arrays) ≡ None → AllByRecursion (IsArray t interval) arrays
 arrays-from t interval [] fit none = tt
 arrays-from t interval (a ∷ arrays) fit none =
-    let here = met-from (BadRepetition a.repetition interval) (interval % a.repetition == 0) _ none in
-    (record {
-      members = fit.0.members;
-      few = fit.0.few;
-      repeated = fit.0.repeated;
-      field = fit.0.field;
-      divides = eqb-true (interval % a.repetition) 0 here.0;
-    }, arrays-from t interval arrays fit.1 here.1)
+    let here = met-from (BadRepetition a.repetition interval) (interval % a.repetition == 0) _ none in (
+      record {
+        members = fit.0.members;
+        few = fit.0.few;
+        repeated = fit.0.repeated;
+        field = fit.0.field;
+        divides = eqb-true (interval % a.repetition) 0 here.0;
+      },
+      arrays-from t interval arrays fit.1 here.1,
+    )
 
 -- repetition numbers are 1 or more
 pub positive-from : (w : Widths) (arrays : List SuperList) → AllByRecursion (IsFitArray w) arrays → AllByRecursion (λ a. 1 ≤ a.repetition) arrays

@@ -27,7 +27,7 @@ table_list_of-list d vs tables list test = rw (list, list_all-map (λ x. is_some
 -- the first member of what is left of a list, and those after it
 pub members_checks-step : (s : Section) (key : List ℕ) (greatest i : ℕ) (vs : List Value) (v : Value) → v ≡ get_or vs i v → i < length vs
     → members_checks s key greatest i (map view (drop i vs))
-      ≡ member_checks s key greatest (i, view v) ++ members_checks s key greatest (i + 1) (map view (drop (i + 1) vs))
+    ≡ member_checks s key greatest (i, view v) ++ members_checks s key greatest (i + 1) (map view (drop (i + 1) vs))
 members_checks-step s key greatest i vs v e h =
     ap (λ ws. members_checks s key greatest i (map view ws)) (drop_more vs i v h ∙ ap (λ w. w ∷ drop (i + 1) vs) (sym e))
 

@@ -68,9 +68,10 @@ arrays-beside : (w : Widths) (ps : List Param) (before after : List Boot) (inter
     → AllByRecursion (IsArray (record { widths = w; params = ps; boots = before }) interval) arrays
     → AllByRecursion (IsArray (record { widths = w; params = ps; boots = after }) interval) arrays
 arrays-beside w ps before after interval [] all = tt
-arrays-beside w ps before after interval (a ∷ arrays) all =
-    (record { members = all.0.members; few = all.0.few; repeated = all.0.repeated; field = all.0.field; divides = all.0.divides },
-    arrays-beside w ps before after interval arrays all.1)
+arrays-beside w ps before after interval (a ∷ arrays) all = (
+  record { members = all.0.members; few = all.0.few; repeated = all.0.repeated; field = all.0.field; divides = all.0.divides },
+  arrays-beside w ps before after interval arrays all.1,
+)
 
 -- whether structures are fit doesn't rest on the structures beside them
 pub boots-beside : (w : Widths) (ps : List Param) (before after bs : List Boot)
@@ -78,21 +79,23 @@ pub boots-beside : (w : Widths) (ps : List Param) (before after bs : List Boot)
     → AllByRecursion (IsFitBoot (record { widths = w; params = ps; boots = after })) bs
 boots-beside w ps before after [] all = tt
 boots-beside w ps before after (x ∷ bs) all =
-    let f = all.0.valid.formed in
-    (record {
-      id = all.0.id;
-      valid =
-          record {
-            formed =
-                record {
-                  interval = f.interval;
-                  some = f.some;
-                  known = f.known;
-                  once = f.once;
-                  simple = f.simple;
-                  few_arrays = f.few_arrays;
-                  arrays = arrays-beside w ps before after x.structure.def.interval x.structure.def.arrays f.arrays;
-                };
-            narrow = all.0.valid.narrow;
-          };
-    }, boots-beside w ps before after bs all.1)
+    let f = all.0.valid.formed in (
+      record {
+        id = all.0.id;
+        valid =
+            record {
+              formed =
+                  record {
+                    interval = f.interval;
+                    some = f.some;
+                    known = f.known;
+                    once = f.once;
+                    simple = f.simple;
+                    few_arrays = f.few_arrays;
+                    arrays = arrays-beside w ps before after x.structure.def.interval x.structure.def.arrays f.arrays;
+                  };
+              narrow = all.0.valid.narrow;
+            };
+      },
+      boots-beside w ps before after bs all.1,
+    )

@@ -24,9 +24,17 @@ fn read_array(section: &Section<'_>, widths: &Widths) -> Result<SuperList, Tailo
     ensures array { IfOk result (λ array. array ≡ array_in (section_of section.now)) }
     ensures fit { IfOk result (IsFitArray widths.now) }
 {
-    let repetition =
-        section.needed_number("repetition", 1, greatest_in(8 * widths.repetition_octets))?;
-    let params = section.needed_ids("parameters", 1, 255, greatest_in(8 * widths.parameter_octets))?;
+    let repetition = section.needed_number(
+        "repetition",
+        1,
+        greatest_in(8 * widths.repetition_octets),
+    )?;
+    let params = section.needed_ids(
+        "parameters",
+        1,
+        255,
+        greatest_in(8 * widths.parameter_octets),
+    )?;
     section.only(TableKind::Array)?;
     Ok(SuperList {
         repetition: repetition as u32,

@@ -70,11 +70,7 @@ fn check_repetitions(interval: u32, arrays: &[SuperList]) -> Result<(), Tailorin
 }
 
 /// The values of a report have at most so many octets as are allowed.
-fn check_size(
-    widths: &Widths,
-    params: &[Param],
-    def: &Definition,
-) -> Result<(), TailoringFault>
+fn check_size(widths: &Widths, params: &[Param], def: &Definition) -> Result<(), TailoringFault>
     requires widths { IsFitWidths widths.now }
     requires params { AllByRecursion (IsFitParam widths.now) params.now }
     requires formed { IsWellFormed (record { widths = widths.now; params = params.now; boots = [] }) def.now }

@@ -1,6 +1,5 @@
 //! The keys of a table: whether they are there, their kinds and their ranges.
 ghost use Rattle.std.specs.Prelude.{◌≡◌, ◌≤◌, ◌^◌, ◌-◌, ℕ, ◌++◌, is_some, true, false, Some, None, MatchOption, IfOk, option_map, pos};
-
 ghost use Rattle.toml.specs.View.{view};
 ghost use Rattle.hk_tailoring.specs.Checks.{Answers, IsUnlessMemory};
 ghost use Rattle.hk_tailoring.specs.Keys as keys;

@@ -4,11 +4,11 @@
 mod arrays;
 mod definitions;
 mod fault;
+mod file;
 mod keys;
 mod known;
 mod lists;
 mod params;
-mod file;
 mod section;
 mod structures;
 mod texts;
@@ -16,3 +16,6 @@ mod widths;
 
 pub use fault::TailoringFault;
 pub use file::read;
+
+#[cfg(test)]
+mod tests;

@@ -66,7 +66,12 @@ impl Section<'_> {
 
     /// A list of so many tables that must be there.
     #[tactic(auto, unfolding(crate::specs::Keys::needed_tables_checks))]
-    pub fn needed_tables(&self, key: &str, low: usize, high: usize) -> Result<&[Value], TailoringFault>
+    pub fn needed_tables(
+        &self,
+        key: &str,
+        low: usize,
+        high: usize,
+    ) -> Result<&[Value], TailoringFault>
         ensures tables { IfOk result (λ values. AllPass (λ value. is_some (as_table (view value))) values.now) }
         ensures values { Answers (λ values. map view values.now) (needed_tables_checks (section_of self.now) key.now low high) (list_at (section_of self.now) key.now) result }
         ensures within { IfOk result (λ values. (low ≤ length values.now) × (length values.now ≤ high)) }
@@ -79,7 +84,13 @@ impl Section<'_> {
 
     /// A whole number up to a greatest one, in a list at a place from 0.
     #[tactic(auto, unfolding(crate::specs::Keys::member_checks))]
-    fn member(&self, key: &str, n: usize, value: &Value, greatest: u64) -> Result<u64, TailoringFault>
+    fn member(
+        &self,
+        key: &str,
+        n: usize,
+        value: &Value,
+        greatest: u64,
+    ) -> Result<u64, TailoringFault>
         ensures number { Answers (λ m. Some m) (member_checks (section_of self.now) key.now greatest (n, view value.now)) (natural_of (view value.now)) result }
         ensures within { IfOk result (λ m. m ≤ greatest) }
     {
@@ -94,7 +105,13 @@ impl Section<'_> {
 
     /// A list of so many IDs that may be missing, and is empty then.
     #[tactic(auto, using(crate::proofs::CheckLemmas::in_order), unfolding(crate::specs::Keys::numbers_checks))]
-    pub fn ids(&self, key: &str, low: usize, high: usize, greatest: u64) -> Result<Items<u32>, TailoringFault>
+    pub fn ids(
+        &self,
+        key: &str,
+        low: usize,
+        high: usize,
+        greatest: u64,
+    ) -> Result<Items<u32>, TailoringFault>
         requires { greatest < 2 ^ 32 }
         ensures ids { Answers (λ ids. ids) (numbers_checks (section_of self.now) key.now low high greatest) (naturals_at (section_of self.now) key.now) result }
         ensures few { IfOk result (λ ids. length ids ≤ high) }
@@ -107,7 +124,13 @@ impl Section<'_> {
 
     /// A list of so many IDs that must be there.
     #[tactic(auto, unfolding(crate::specs::Keys::needed_numbers_checks))]
-    pub fn needed_ids(&self, key: &str, low: usize, high: usize, greatest: u64) -> Result<Items<u32>, TailoringFault>
+    pub fn needed_ids(
+        &self,
+        key: &str,
+        low: usize,
+        high: usize,
+        greatest: u64,
+    ) -> Result<Items<u32>, TailoringFault>
         requires { greatest < 2 ^ 32 }
         ensures ids { Answers (λ ids. ids) (needed_numbers_checks (section_of self.now) key.now low high greatest) (naturals_at (section_of self.now) key.now) result }
         ensures within { IfOk result (λ ids. (low ≤ length ids) × (length ids ≤ high)) }
@@ -120,7 +143,13 @@ impl Section<'_> {
 
     /// The values of an enumerated parameter with so many bits.
     #[tactic(auto, unfolding(crate::specs::Keys::needed_numbers_checks))]
-    pub fn needed_values(&self, key: &str, low: usize, high: usize, bits: u8) -> Result<Items<hk_base::Value>, TailoringFault>
+    pub fn needed_values(
+        &self,
+        key: &str,
+        low: usize,
+        high: usize,
+        bits: u8,
+    ) -> Result<Items<hk_base::Value>, TailoringFault>
         requires { (1 ≤ bits) × (bits ≤ 64) }
         ensures values { Answers (λ values. values) (needed_numbers_checks (section_of self.now) key.now low high (2 ^ bits - 1)) (map pos (naturals_at (section_of self.now) key.now)) result }
         ensures within { IfOk result (λ values. (low ≤ length values) × (length values ≤ high)) }
@@ -134,7 +163,13 @@ impl Section<'_> {
 
     /// A list of so many numbers of so many bits that may be missing, and is empty then.
     #[tactic(auto, using(crate::proofs::CheckLemmas::in_order), unfolding(crate::specs::Keys::numbers_checks))]
-    fn values(&self, key: &str, low: usize, high: usize, bits: u8) -> Result<Items<hk_base::Value>, TailoringFault>
+    fn values(
+        &self,
+        key: &str,
+        low: usize,
+        high: usize,
+        bits: u8,
+    ) -> Result<Items<hk_base::Value>, TailoringFault>
         requires { (1 ≤ bits) × (bits ≤ 64) }
         ensures values { Answers (λ values. values) (numbers_checks (section_of self.now) key.now low high (2 ^ bits - 1)) (map pos (naturals_at (section_of self.now) key.now)) result }
         ensures few { IfOk result (λ values. length values ≤ high) }
@@ -147,7 +182,12 @@ impl Section<'_> {
     }
 
     /// The numbers of so many bits in a list.
-    fn value_members(&self, key: &str, values: &[Value], bits: u8) -> Result<Vec<hk_base::Value>, TailoringFault>
+    fn value_members(
+        &self,
+        key: &str,
+        values: &[Value],
+        bits: u8,
+    ) -> Result<Vec<hk_base::Value>, TailoringFault>
         requires { (1 ≤ bits) × (bits ≤ 64) }
         ensures values { Answers (λ numbers. numbers.items) (members_checks (section_of self.now) key.now (2 ^ bits - 1) 0 (map view values.now)) (map pos (filter_map natural_of (map view values.now))) result }
         ensures count { IfOk result (λ numbers. length numbers.items ≡ length values.now) }
@@ -163,7 +203,12 @@ impl Section<'_> {
     }
 
     /// The IDs in a list.
-    fn id_members(&self, key: &str, values: &[Value], greatest: u64) -> Result<Vec<u32>, TailoringFault>
+    fn id_members(
+        &self,
+        key: &str,
+        values: &[Value],
+        greatest: u64,
+    ) -> Result<Vec<u32>, TailoringFault>
         requires { greatest < 2 ^ 32 }
         ensures ids { Answers (λ ids. ids.items) (members_checks (section_of self.now) key.now greatest 0 (map view values.now)) (filter_map natural_of (map view values.now)) result }
         ensures count { IfOk result (λ ids. length ids.items ≡ length values.now) }

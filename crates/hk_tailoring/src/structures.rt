@@ -73,7 +73,10 @@ fn read_structure(section: &Section<'_>, widths: &Widths) -> Result<Boot, Tailor
         arrays: Items::from_vec(arrays),
     };
     Ok(Boot {
-        key: Key { kind, id: id as u32 },
+        key: Key {
+            kind,
+            id: id as u32,
+        },
         structure: Structure { def, enabled },
     })
 }

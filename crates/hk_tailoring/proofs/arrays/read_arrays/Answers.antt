@@ -25,7 +25,7 @@ returns-in_err-array-clause-checked c =
     let table : section_at place (n, view v) ≡ Some s = ap (λ p. place_section p (view v)) (sym c.array.ensures) ∙ c.of_table-section.ensures in
     passes-exit (arrays_checks b (sections place 0 (map view vs))) c.from_residual.result fault c.from_residual.ensures.1
     (λ not_memory.
-        array-stopped b place n vs v s fault c.loop-n.invariant.checks c.index-tables-n.is c.loop-n-test.true table (c.in_err-array.ensures.checked not_memory))
+    array-stopped b place n vs v s fault c.loop-n.invariant.checks c.index-tables-n.is c.loop-n-test.true table (c.in_err-array.ensures.checked not_memory))
 
 pub loop-n-preserved : goal.loop-n-preserved
 loop-n-preserved c =

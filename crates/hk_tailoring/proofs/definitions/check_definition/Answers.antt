@@ -25,8 +25,8 @@ returns-then-is_empty-clause-checked c =
     let third = repetition_checks d.interval d.arrays in
     let fourth = width_check w.max_payload ps d ∷ [] in
     λ not_memory.
-        subst (λ f. first_fault (first ++ (second ++ (third ++ fourth))) ≡ Some f) (sym (c.out_of_range.ensures not_memory))
-        (none-checked s d ids (second ++ (third ++ fourth)) is (none-by (length ids) c.is_empty.result c.is_empty.ensures c.if-is_empty.true))
+    subst (λ f. first_fault (first ++ (second ++ (third ++ fourth))) ≡ Some f) (sym (c.out_of_range.ensures not_memory))
+    (none-checked s d ids (second ++ (third ++ fourth)) is (none-by (length ids) c.is_empty.result c.is_empty.ensures c.if-is_empty.true))
 
 pub returns-in_err-check_ids-clause-checked : goal.returns-in_err-check_ids-clause-checked
 unfolding definition_checks
@@ -118,7 +118,7 @@ returns-clause-valid c =
     let by_arrays = ap (λ (xs : List SuperList). first_fault (repetition_checks d.interval xs)) (sym c.as_slice.ensures) in
     let t : TailoringParts = record { widths = w; params = ps; boots = [] } in
     let formed : IsWellFormed t d =
-        well-formed t d c.requires.sizes (subst (λ xs. 0 < length xs) is some) (by_ids ∙ c.in_ok-check_ids.ensures.checked) (by_arrays ∙ c.in_ok-check_repetitions.ensures.checked) in
+    well-formed t d c.requires.sizes (subst (λ xs. 0 < length xs) is some) (by_ids ∙ c.in_ok-check_ids.ensures.checked) (by_arrays ∙ c.in_ok-check_repetitions.ensures.checked) in
     record { formed = formed; narrow = c.in_ok-check_size.ensures.narrow }
 
 pub check_size-requires-clause-formed : goal.check_size-requires-clause-formed
@@ -134,11 +134,10 @@ check_size-requires-clause-formed c =
     let by_arrays = ap (λ (xs : List SuperList). first_fault (repetition_checks d.interval xs)) (sym c.as_slice.ensures) in
     let t : TailoringParts = record { widths = w; params = ps; boots = [] } in
     let formed : IsWellFormed t d =
-        well-formed t d c.requires.sizes (subst (λ xs. 0 < length xs) is some) (by_ids ∙ c.in_ok-check_ids.ensures.checked) (by_arrays ∙ c.in_ok-check_repetitions.ensures.checked) in
+    well-formed t d c.requires.sizes (subst (λ xs. 0 < length xs) is some) (by_ids ∙ c.in_ok-check_ids.ensures.checked) (by_arrays ∙ c.in_ok-check_repetitions.ensures.checked) in
     formed
 
 pub check_repetitions-requires : goal.check_repetitions-requires
 check_repetitions-requires c =
     subst (λ (xs : List SuperList). All (λ a. 1 ≤ a.repetition) xs) (sym c.as_slice.ensures)
     (All-from_recursion (λ (a : SuperList). 1 ≤ a.repetition) c.args.def.now.arrays (positive-from c.args.widths.now c.args.def.now.arrays c.requires.sizes.arrays))
-

@@ -28,17 +28,17 @@ new-requires c =
     let few : length ps ≤ 512 = omega (arith, c.in_ok-params.ensures.count, c.in_ok-param_tables.ensures.within.1) in
     let some : 1 ≤ length ps = omega (arith, c.in_ok-params.ensures.count, c.in_ok-param_tables.ensures.within.0) in
     let fit : IsFit (record { widths = w; params = ps; boots = bs }) =
-        record {
-          widths = c.in_ok-widths.ensures.fit;
-          count = (some, few);
-          params = c.in_ok-params.ensures.fit;
-          ids = c.in_ok-params.ensures.ids;
-          boot_count = omega (arith, c.in_ok-boots.ensures.count, c.in_ok-structure_tables.ensures.few);
-          boots =
-              boots-beside w ps [] bs bs
-              (subst (λ (qs : List Param). AllByRecursion (IsFitBoot (record { widths = w; params = qs; boots = [] })) bs) c.as_slice.ensures.value c.in_ok-boots.ensures.fit);
-          keys = c.in_ok-boots.ensures.keys;
-        } in
+    record {
+      widths = c.in_ok-widths.ensures.fit;
+      count = (some, few);
+      params = c.in_ok-params.ensures.fit;
+      ids = c.in_ok-params.ensures.ids;
+      boot_count = omega (arith, c.in_ok-boots.ensures.count, c.in_ok-structure_tables.ensures.few);
+      boots =
+          boots-beside w ps [] bs bs
+          (subst (λ (qs : List Param). AllByRecursion (IsFitBoot (record { widths = w; params = qs; boots = [] })) bs) c.as_slice.ensures.value c.in_ok-boots.ensures.fit);
+      keys = c.in_ok-boots.ensures.keys;
+    } in
     subst (λ (qs : List Param). IsFit (record { widths = w; params = qs; boots = c.from_vec-2.result })) (sym c.from_vec.ensures)
     (subst (λ (cs : List Boot). IsFit (record { widths = w; params = ps; boots = cs })) (sym c.from_vec-2.ensures) fit)
 

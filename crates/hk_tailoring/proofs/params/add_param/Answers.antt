@@ -25,10 +25,10 @@ returns-then-has_id-clause-checked c =
     let earlier = c.args.params.now.items in
     let param = c.in_ok-param.param in
     let found : list_any (λ e. e.id == param.id) earlier ≡ true =
-        ap (λ ps. list_any (λ e. e.id == param.id) ps) (sym c.as_slice.ensures.value) ∙ (sym c.has_id.ensures ∙ c.if-has_id.true) in
+    ap (λ ps. list_any (λ e. e.id == param.id) ps) (sym c.as_slice.ensures.value) ∙ (sym c.has_id.ensures ∙ c.if-has_id.true) in
     λ _.
-        first_fault-passed (param_checks w.parameter_octets w.packed s) (repeat_check earlier (param_in w.packed s) ∷ []) c.in_ok-param.ensures.checked
-        ∙ repeat-found earlier param (param_in w.packed s) c.in_ok-param.ensures.param found
+    first_fault-passed (param_checks w.parameter_octets w.packed s) (repeat_check earlier (param_in w.packed s) ∷ []) c.in_ok-param.ensures.checked
+    ∙ repeat-found earlier param (param_in w.packed s) c.in_ok-param.ensures.param found
 
 pub returns-clause-checked : goal.returns-clause-checked
 unfolding next_param_checks
@@ -38,6 +38,6 @@ returns-clause-checked c =
     let earlier = c.args.params.now.items in
     let param = c.in_ok-param.param in
     let none : list_any (λ e. e.id == param.id) earlier ≡ false =
-        ap (λ ps. list_any (λ e. e.id == param.id) ps) (sym c.as_slice.ensures.value) ∙ (sym c.has_id.ensures ∙ c.if-has_id.false) in
+    ap (λ ps. list_any (λ e. e.id == param.id) ps) (sym c.as_slice.ensures.value) ∙ (sym c.has_id.ensures ∙ c.if-has_id.false) in
     first_fault-passed (param_checks w.parameter_octets w.packed s) (repeat_check earlier (param_in w.packed s) ∷ []) c.in_ok-param.ensures.checked
     ∙ repeat-passed earlier param (param_in w.packed s) c.in_ok-param.ensures.param none

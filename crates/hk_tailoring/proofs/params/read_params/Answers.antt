@@ -38,8 +38,8 @@ returns-in_err-add_param-clause-checked c =
     let fault = c.in_err-add_param.field-0.0 in
     passes-exit (whole w.parameter_octets w.packed vs) c.from_residual.result fault c.from_residual.ensures.1
     (λ not_memory.
-        param-stopped w.parameter_octets w.packed c.loop-n.params.items c.loop-n.n vs v (section_of c.of_table-section.result) fault c.loop-n.invariant.checks
-        c.index-tables-n.is c.loop-n-test.true c.of_table-section.ensures (c.in_err-add_param.ensures.checked not_memory))
+    param-stopped w.parameter_octets w.packed c.loop-n.params.items c.loop-n.n vs v (section_of c.of_table-section.result) fault c.loop-n.invariant.checks
+    c.index-tables-n.is c.loop-n-test.true c.of_table-section.ensures (c.in_err-add_param.ensures.checked not_memory))
 
 pub loop-n-preserved : goal.loop-n-preserved
 loop-n-preserved c =

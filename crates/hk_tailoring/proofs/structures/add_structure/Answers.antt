@@ -34,10 +34,10 @@ returns-then-has_key-clause-checked c =
     let first = structure_key_checks b s in
     let last = definition_checks b ps s (boot_in s).structure.def in
     let found : list_any (λ e. key_eq e.key boot.key) earlier ≡ true =
-        ap (λ bs. list_any (λ e. key_eq e.key boot.key) bs) (sym c.as_slice.ensures.value) ∙ (sym c.has_key.ensures ∙ c.if-has_key.true) in
+    ap (λ bs. list_any (λ e. key_eq e.key boot.key) bs) (sym c.as_slice.ensures.value) ∙ (sym c.has_key.ensures ∙ c.if-has_key.true) in
     λ _.
-        first_fault-passed first (key_check earlier (boot_in s) ∷ [] ++ last) c.in_ok-boot.ensures.checked
-        ∙ key-found earlier boot (boot_in s) last c.in_ok-boot.ensures.boot found
+    first_fault-passed first (key_check earlier (boot_in s) ∷ [] ++ last) c.in_ok-boot.ensures.checked
+    ∙ key-found earlier boot (boot_in s) last c.in_ok-boot.ensures.boot found
 
 pub returns-in_err-check_definition-clause-checked : goal.returns-in_err-check_definition-clause-checked
 unfolding next_structure_checks
@@ -52,13 +52,13 @@ returns-in_err-check_definition-clause-checked c =
     let last = definition_checks b ps s (boot_in s).structure.def in
     let fault = c.in_err-check_definition.field-0.0 in
     let none : list_any (λ e. key_eq e.key boot.key) earlier ≡ false =
-        ap (λ bs. list_any (λ e. key_eq e.key boot.key) bs) (sym c.as_slice.ensures.value) ∙ (sym c.has_key.ensures ∙ c.if-has_key.false) in
+    ap (λ bs. list_any (λ e. key_eq e.key boot.key) bs) (sym c.as_slice.ensures.value) ∙ (sym c.has_key.ensures ∙ c.if-has_key.false) in
     let is = ap (λ (x : Boot). first_fault (definition_checks b ps s x.structure.def)) (sym c.in_ok-boot.ensures.boot) in
     passes-exit (first ++ (second ++ last)) c.from_residual-in_err-check_definition.result fault c.from_residual-in_err-check_definition.ensures.1
     (λ not_memory.
-        first_fault-passed first (second ++ last) c.in_ok-boot.ensures.checked
-        ∙ (first_fault-passed second last (key-passed earlier boot (boot_in s) c.in_ok-boot.ensures.boot none)
-        ∙ (is ∙ c.in_err-check_definition.ensures.checked not_memory)))
+    first_fault-passed first (second ++ last) c.in_ok-boot.ensures.checked
+    ∙ (first_fault-passed second last (key-passed earlier boot (boot_in s) c.in_ok-boot.ensures.boot none)
+    ∙ (is ∙ c.in_err-check_definition.ensures.checked not_memory)))
 
 pub returns-clause-checked : goal.returns-clause-checked
 unfolding next_structure_checks
@@ -72,7 +72,7 @@ returns-clause-checked c =
     let second = key_check earlier (boot_in s) ∷ [] in
     let last = definition_checks b ps s (boot_in s).structure.def in
     let none : list_any (λ e. key_eq e.key boot.key) earlier ≡ false =
-        ap (λ bs. list_any (λ e. key_eq e.key boot.key) bs) (sym c.as_slice.ensures.value) ∙ (sym c.has_key.ensures ∙ c.if-has_key.false) in
+    ap (λ bs. list_any (λ e. key_eq e.key boot.key) bs) (sym c.as_slice.ensures.value) ∙ (sym c.has_key.ensures ∙ c.if-has_key.false) in
     let is = ap (λ (x : Boot). first_fault (definition_checks b ps s x.structure.def)) (sym c.in_ok-boot.ensures.boot) in
     first_fault-passed first (second ++ last) c.in_ok-boot.ensures.checked
     ∙ (first_fault-passed second last (key-passed earlier boot (boot_in s) c.in_ok-boot.ensures.boot none)

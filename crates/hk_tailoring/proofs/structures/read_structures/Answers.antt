@@ -42,8 +42,8 @@ returns-in_err-add_structure-clause-checked c =
     let fault = c.in_err-add_structure.field-0.0 in
     passes-exit (whole b ps vs) c.from_residual.result fault c.from_residual.ensures.1
     (λ not_memory.
-        structure-stopped b ps c.loop-n.boots.items c.loop-n.n vs v (section_of c.of_table-section.result) fault c.loop-n.invariant.checks
-        c.index-tables-n.is c.loop-n-test.true c.of_table-section.ensures (c.in_err-add_structure.ensures.checked not_memory))
+    structure-stopped b ps c.loop-n.boots.items c.loop-n.n vs v (section_of c.of_table-section.result) fault c.loop-n.invariant.checks
+    c.index-tables-n.is c.loop-n-test.true c.of_table-section.ensures (c.in_err-add_structure.ensures.checked not_memory))
 
 pub loop-n-preserved : goal.loop-n-preserved
 loop-n-preserved c =

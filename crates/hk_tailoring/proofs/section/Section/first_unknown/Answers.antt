@@ -19,7 +19,7 @@ pub loop-key-preserved : goal.loop-key-preserved
 loop-key-preserved c =
     let known = known_keys c.args.kind in
     let has : list_any (bytes_eq (string_bytes c.in-Some.key.now)) known ≡ true =
-        ap (λ bytes. list_any (bytes_eq bytes) known) (sym c.as_str.ensures.value) ∙ (sym c.has.ensures ∙ c.if-not-has.false) in
+    ap (λ bytes. list_any (bytes_eq bytes) known) (sym c.as_str.ensures.value) ∙ (sym c.has.ensures ∙ c.if-not-has.false) in
     record {
       can = tt;
       finite = tt;
@@ -30,7 +30,7 @@ pub returns-then-not-has : goal.returns-then-not-has
 returns-then-not-has c =
     let known = known_keys c.args.kind in
     let has : list_any (bytes_eq (string_bytes c.in-Some.key.now)) known ≡ false =
-        ap (λ bytes. list_any (bytes_eq bytes) known) (sym c.as_str.ensures.value) ∙ (sym c.has.ensures ∙ c.if-not-has.true) in
+    ap (λ bytes. list_any (bytes_eq bytes) known) (sym c.as_str.ensures.value) ∙ (sym c.has.ensures ∙ c.if-not-has.true) in
     ap (λ bytes. Some bytes) c.as_str-then-not-has.ensures.value
     ∙ (sym (first_other-found known c.loop-key.key-iterator c.in-Some.key.now c.next.new.self c.in-Some.ensures.steps has) ∙ c.loop-key.invariant.rest)
 

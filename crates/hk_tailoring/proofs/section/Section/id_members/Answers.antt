@@ -16,8 +16,8 @@ returns-in_err-id-clause-ids c =
     answers-exit (λ ids. ids.items) (members_checks s key c.args.greatest 0 (map view vs)) (filter_map natural_of (map view vs)) c.from_residual.result fault
     c.from_residual.ensures.1
     (λ not_memory.
-        members-stopped s key c.args.greatest c.loop-n.n vs v fault c.loop-n.invariant.checks c.index-values-n.is c.loop-n-test.true
-        (c.in_err-id.ensures.number not_memory))
+    members-stopped s key c.args.greatest c.loop-n.n vs v fault c.loop-n.invariant.checks c.index-values-n.is c.loop-n-test.true
+    (c.in_err-id.ensures.number not_memory))
 
 pub loop-n-preserved : goal.loop-n-preserved
 loop-n-preserved c =

@@ -19,8 +19,8 @@ returns-in_err-number-clause-values c =
     answers-exit (λ numbers. numbers.items) (members_checks s key greatest 0 (map view vs)) (map pos (filter_map natural_of (map view vs))) c.from_residual.result fault
     c.from_residual.ensures.1
     (λ not_memory.
-        members-stopped s key greatest c.loop-n.n vs v fault c.loop-n.invariant.checks c.index-values-n.is c.loop-n-test.true
-        (rw c.greatest_in-greatest.ensures at (c.in_err-number.ensures.number not_memory)))
+    members-stopped s key greatest c.loop-n.n vs v fault c.loop-n.invariant.checks c.index-values-n.is c.loop-n-test.true
+    (rw c.greatest_in-greatest.ensures at (c.in_err-number.ensures.number not_memory)))
 
 pub loop-n-preserved : goal.loop-n-preserved
 loop-n-preserved c =

@@ -1,5 +1,5 @@
 -- The values of a list in a document.
-use Rattle.std.proofs.Common.{◌≡◌, refl, ap, sym, ◌∙◌, List, [], ◌∷◌, Bool, ◌&&◌, map, Option, Some, None, cond, is_some, ℕ, ◌+◌, ◌<◌, ◌++◌, length, drop, get_or, append_assoc, ℤ, pos, ◌≤◌, ◌-◌, ◌^◌, ◌≤ℤ◌, ◌<ℤ◌, arith}
+use Rattle.std.proofs.Common.{◌≡◌, refl, ap, sym, ◌∙◌, List, [], ◌∷◌, Bool, map, Some, None, cond, is_some, ℕ, ◌+◌, ◌<◌, ◌++◌, length, drop, get_or, append_assoc, ℤ, pos, ◌≤◌, ◌-◌, ◌^◌, ◌≤ℤ◌, ◌<ℤ◌, arith}
 use Rattle.std.proofs.lemmas.Int.{ints}
 use Rattle.std.proofs.Math.Nat.{one-le-pow}
 use Rattle.std.proofs.lemmas.List.{drop_more}

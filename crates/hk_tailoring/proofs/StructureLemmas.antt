@@ -1,9 +1,8 @@
 -- The structures of a document, one after the other.
-use Rattle.std.proofs.Common.{◌≡◌, ℕ, ◌+◌, ◌<◌, ap, List, [], ◌∷◌, ◌++◌, map, length, drop, get_or, Some, None, Bool, true, false, not, cond, subst}
+use Rattle.std.proofs.Common.{◌≡◌, ℕ, ◌+◌, ◌<◌, ap, List, [], ◌∷◌, ◌++◌, map, length, drop, get_or, Some, None, true, false, not, cond, subst}
 use Rattle.std.specs.List.{list_any, AllByRecursion}
 use Rattle.toml.specs.View.{view}
 use Rattle.toml.specs.declared.value.Value.{Value}
-use Rattle.hk_base.specs.TailoringParts.{TailoringParts}
 use Rattle.hk_base.specs.Fit.{IsFitBoot}
 use Rattle.hk_base.specs.Definitions.{IsArray}
 use Rattle.hk_base.specs.Parameters.{key_eq}

@@ -1,8 +1,7 @@
 -- The keys of a table in a document: where they stand, their kinds and their ranges.
-use Rattle.std.specs.Prelude.{ℕ, ◌+◌, ℤ, pos, negsuc, List, [], ◌∷◌, ◌++◌, length, map, filter_map, find, flat_map, Bool, true, false, not, ◌&&◌, int_le, Option, Some, None, is_some, is_none, unwrap_or, option_map, option_and_then, codes, if◌then◌else◌}
+use Rattle.std.specs.Prelude.{ℕ, ℤ, pos, negsuc, List, [], ◌∷◌, ◌++◌, length, filter_map, flat_map, Bool, true, false, ◌&&◌, int_le, Option, Some, None, is_some, unwrap_or, option_map, option_and_then, codes, if◌then◌else◌}
 use Rattle.std.specs.Option.{option_map_or}
-use Rattle.std.specs.List.{list_any, list_all, enumerate_from}
-use Rattle.std.specs.Str.{bytes_eq}
+use Rattle.std.specs.List.{list_all, enumerate_from}
 use Rattle.std.specs.Fmt.{decimal}
 use Rattle.toml.specs.Data.{Data, Items, no_items, item, Members, no_members, member, get_member, as_str, as_integer, as_bool, as_array, as_table}
 use Rattle.toml.specs.View.{table_view}
@@ -10,7 +9,7 @@ use Rattle.hk_tailoring.specs.declared.section.Place.{Place}
 use Rattle.hk_tailoring.specs.declared.section.Place.TheVariants.{Document, Parameter, Structure, Array}
 use Rattle.hk_tailoring.specs.declared.section.Section.{Section as SectionBeside}
 use Rattle.hk_tailoring.specs.Checks.{Check, check}
-use Rattle.hk_tailoring.specs.declared.fault.TailoringFault.TheVariants.{MissingKey, WrongKind, OutOfRange, UnknownKey}
+use Rattle.hk_tailoring.specs.declared.fault.TailoringFault.TheVariants.{MissingKey, WrongKind, OutOfRange}
 
 -- the values of an array
 abbrev pub values_of : Items → List Data

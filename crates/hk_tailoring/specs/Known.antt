@@ -1,8 +1,8 @@
 -- The keys that a table may have.
-use Rattle.std.specs.Prelude.{ℕ, List, [], ◌∷◌, ◌++◌, find, Bool, not, Option, is_none, unwrap_or, codes, if◌then◌else◌}
+use Rattle.std.specs.Prelude.{ℕ, List, [], ◌∷◌, find, Bool, not, Option, is_none, unwrap_or, codes, if◌then◌else◌}
 use Rattle.std.specs.List.{list_any}
 use Rattle.std.specs.Str.{bytes_eq}
-use Rattle.toml.specs.Data.{Members, no_members, member}
+use Rattle.toml.specs.Data.{Members}
 use Rattle.hk_tailoring.specs.Checks.{Check, check}
 use Rattle.hk_tailoring.specs.Keys.{Section, keys_of, path_of}
 use Rattle.hk_tailoring.specs.declared.section.TableKind.{TableKind}

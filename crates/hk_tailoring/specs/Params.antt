@@ -7,14 +7,12 @@ use Rattle.hk_base.specs.Parameters.{in_range}
 use Rattle.hk_base.specs.declared.types.Form.{Form}
 use Rattle.hk_base.specs.declared.types.Form.TheVariants as form
 use Rattle.hk_base.specs.declared.types.Param.{Param}
-use Rattle.hk_base.specs.declared.types.Widths.{Widths}
 use Rattle.hk_tailoring.specs.declared.section.Place.{Place}
-use Rattle.hk_tailoring.specs.declared.section.Place.TheVariants as place
 use Rattle.hk_tailoring.specs.declared.section.TableKind.TheVariants as table
 use Rattle.hk_tailoring.specs.declared.params.FormName.{FormName}
 use Rattle.hk_tailoring.specs.declared.params.FormName.TheVariants.{Unsigned, Signed, Enumerated, Boolean}
 use Rattle.hk_tailoring.specs.Checks.{Check, check}
-use Rattle.hk_tailoring.specs.Keys.{Section, path_of, at_key, number_at, text_at, natural_at, naturals_at, list_at, is_number, presence, kind_check, range_check, needed_number_checks, needed_numbers_checks}
+use Rattle.hk_tailoring.specs.Keys.{Section, path_of, number_at, text_at, natural_at, naturals_at, is_number, presence, kind_check, range_check, needed_number_checks, needed_numbers_checks}
 use Rattle.hk_tailoring.specs.Known.{width_key, known_keys, known_check}
 use Rattle.hk_tailoring.specs.Widths.{greatest_in}
 use Rattle.hk_tailoring.specs.declared.fault.TailoringFault.TheVariants.{RepeatedParam}

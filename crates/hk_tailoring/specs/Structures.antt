@@ -13,7 +13,6 @@ use Rattle.hk_base.specs.declared.types.Kind.TheVariants.{Housekeeping, Diagnost
 use Rattle.hk_base.specs.declared.types.SuperList.{SuperList}
 use Rattle.hk_base.specs.declared.types.Definition.{Definition}
 use Rattle.hk_base.specs.declared.types.Boot.{Boot}
-use Rattle.hk_base.specs.TailoringParts.{TailoringParts}
 use Rattle.hk_tailoring.specs.declared.section.Place.{Place}
 use Rattle.hk_tailoring.specs.declared.section.Place.TheVariants as place
 use Rattle.hk_tailoring.specs.declared.section.TableKind.TheVariants as table

@@ -1,4 +1,4 @@
-use Rattle.std.proofs.Common.{◌≡◌, ◌∙◌, ◌++◌, ◌∷◌, [], ◌*◌, codes, ap, sym, arith}
+use Rattle.std.proofs.Common.{◌∙◌, ◌++◌, ◌∷◌, [], ◌*◌, codes, ap, sym, arith}
 use Rattle.std.proofs.Math.Nat.{one-le-pow}
 use Rattle.hk_tailoring.specs.declared.section.TableKind.TheVariants as table
 use Rattle.hk_tailoring.specs.Checks.{first_fault}

@@ -1,6 +1,6 @@
 use Rattle.std.proofs.Common.{◌≡◌, ◌∙◌, Some, ◌++◌, ◌∷◌, [], ◌<◌, ◌≤◌, ap, sym, subst, length, List}
 use Rattle.std.proofs.lemmas.List.Elements.{All-from_recursion}
-use Rattle.std.specs.Prelude.{All, pos, codes}
+use Rattle.std.specs.Prelude.{All}
 use Rattle.hk_base.specs.Definitions.{parameter_ids, IsWellFormed}
 use Rattle.hk_base.specs.TailoringParts.{TailoringParts}
 use Rattle.hk_base.specs.declared.types.SuperList.{SuperList}

@@ -1,9 +1,8 @@
-use Rattle.std.proofs.Common.{◌≡◌, ◌∙◌, ◌++◌, ◌∷◌, [], List, codes, ap, sym, subst, map, length, ◌≤◌, arith}
-use Rattle.std.specs.List.{AllByRecursion, IsDistinct}
+use Rattle.std.proofs.Common.{◌∙◌, ◌++◌, ◌∷◌, [], List, codes, ap, sym, subst, map, length, ◌≤◌, arith}
+use Rattle.std.specs.List.{AllByRecursion}
 use Rattle.toml.specs.View.{view}
 use Rattle.hk_base.specs.TailoringParts.{TailoringParts}
 use Rattle.hk_base.specs.Fit.{IsFit, IsFitBoot}
-use Rattle.hk_base.specs.Parameters.{key_eq}
 use Rattle.hk_base.specs.declared.types.Param.{Param}
 use Rattle.hk_base.specs.declared.types.Boot.{Boot}
 use Rattle.hk_tailoring.specs.declared.section.Place.TheVariants as place
@@ -14,7 +13,7 @@ use Rattle.hk_tailoring.specs.Known.{known_check, known_keys}
 use Rattle.hk_tailoring.specs.Widths.{width_checks}
 use Rattle.hk_tailoring.specs.Params.{param_in, params_checks, sections}
 use Rattle.hk_tailoring.specs.Structures.{bounds_of, boot_in, structures_checks}
-use Rattle.hk_tailoring.specs.Files.{document_checks, is_packed, bounds_in, params_in, boots_in, param_sections, structure_sections, all_param_checks, all_structure_checks, Stands}
+use Rattle.hk_tailoring.specs.Files.{document_checks, is_packed, params_in, param_sections, structure_sections, all_param_checks, all_structure_checks, Stands}
 use Rattle.hk_tailoring.proofs.FileLemmas.{bounds-stated}
 use Rattle.hk_tailoring.proofs.StructureLemmas.{boots-beside}
 use Rattle.hk_tailoring.proofs.CheckLemmas.{passes-exit, first_fault-passed, first_fault-stopped}

@@ -1,15 +1,13 @@
-use Rattle.std.proofs.Common.{◌≡◌, ◌∙◌, ◌++◌, ◌+◌, ◌∷◌, [], ap, sym, subst, map, drop, length, nat_eq, arith}
+use Rattle.std.proofs.Common.{◌≡◌, ◌∙◌, ◌++◌, ◌+◌, ap, sym, subst, map, drop, length, nat_eq}
 use Rattle.std.proofs.lemmas.List.{length_push}
-use Rattle.std.specs.Prelude.{is_some}
 use Rattle.std.specs.List.{AllByRecursion, IsDistinct}
-use Rattle.toml.specs.Data.{as_table}
 use Rattle.toml.specs.View.{view}
 use Rattle.hk_base.specs.Fit.{IsFitParam}
 use Rattle.hk_base.specs.declared.types.Param.{Param}
 use Rattle.hk_tailoring.specs.declared.section.Place.TheVariants.{Parameter}
 use Rattle.hk_tailoring.specs.Checks.{first_fault}
 use Rattle.hk_tailoring.specs.Keys.{section_of}
-use Rattle.hk_tailoring.specs.Params.{param_in, next_param_checks, params_checks, sections}
+use Rattle.hk_tailoring.specs.Params.{param_in, sections}
 use Rattle.hk_tailoring.proofs.CheckLemmas.{passes-exit}
 use Rattle.hk_tailoring.proofs.ListLemmas.{AllByRecursion-push}
 use Rattle.hk_tailoring.proofs.SectionLemmas.{sections-step, stated-more, distinct-push}

@@ -1,7 +1,6 @@
-use Rattle.std.proofs.Common.{◌≡◌, ◌∙◌, ◌++◌, ◌∷◌, [], ◌*◌, codes, ap, sym, subst, map, length, List, arith}
+use Rattle.std.proofs.Common.{◌∙◌, ◌++◌, ◌∷◌, [], ◌*◌, codes, ap, sym, subst, length, List, arith}
 use Rattle.std.proofs.Math.Nat.{one-le-pow}
 use Rattle.std.specs.List.{AllByRecursion}
-use Rattle.toml.specs.View.{view}
 use Rattle.hk_base.specs.declared.types.SuperList.{SuperList}
 use Rattle.hk_tailoring.specs.declared.section.TableKind.TheVariants as table
 use Rattle.hk_tailoring.specs.Checks.{first_fault}

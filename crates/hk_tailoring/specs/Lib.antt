@@ -1,0 +1,9 @@
+pub mod Checks
+pub mod Keys
+pub mod Known
+pub mod Widths
+pub mod Params
+pub mod Structures
+pub mod Sizes
+pub mod Files
+pub mod Texts

@@ -1,5 +1,5 @@
 -- An honest report has a true block.
-use Rattle.std.proofs.Common.{◌≡◌, ◌+◌, ◌-◌, ◌<◌, ◌≤◌, ◌^◌, ℕ, zero, suc, ℤ, Bool, true, false, cond, List, [], ◌∷◌, ◌++◌, length, take, drop, map, Option, Some, None, Result, Ok, Err, refl, sym, ap, subst, ◌∙◌, arith}
+use Rattle.std.proofs.Common.{◌≡◌, ◌-◌, ◌<◌, ◌^◌, ℕ, zero, suc, ℤ, Bool, true, false, cond, List, [], ◌∷◌, ◌++◌, length, take, drop, map, Some, None, Ok, refl, sym, ap, subst, ◌∙◌, arith}
 use Rattle.std.specs.Prelude.{zip, slice_get, nat_le, nat_lt, ◌==◌, ◌&&◌, find}
 use Rattle.std.specs.List.{AllZip, AllByRecursion}
 use Rattle.std.specs.Option.{option_map}
@@ -9,7 +9,7 @@ use Rattle.std.proofs.lemmas.List.{length-append}
 use Rattle.std.proofs.Math.Seq.{take-append_seam, drop-append_seam}
 use Rattle.std.proofs.Math.Nat.{mod-eq_of_lt}
 use Rattle.hk_base.specs.Fields.{octets_of, number_of}
-use Rattle.hk_base.specs.Fit.{IsFit, IsFitBoot, slot_of}
+use Rattle.hk_base.specs.Fit.{IsFitBoot, slot_of}
 use Rattle.hk_base.specs.Parameters.{boot_structure, key_eq, kind_eq}
 use Rattle.hk_base.specs.Payload.{places, payload_read}
 use Rattle.hk_base.specs.TailoringParts.{TailoringParts}
@@ -21,12 +21,11 @@ use Rattle.hk_base.proofs.FieldLemmas.{length-digits, number-digits}
 use Rattle.sample_slots.proofs.PayloadLaws.{payload-read}
 use Rattle.pus_packet.specs.declared.header.TmHeader.{TmHeader}
 use Rattle.hk_world.specs.Timelines.{Session, tailoring}
-use Rattle.hk_world.specs.States.{BoardState, boot_state}
+use Rattle.hk_world.specs.States.{BoardState}
 use Rattle.hk_world.specs.Honest.{housekeeping, IsReport, IsParameterReport, IsFiled}
-use Rattle.hk_world.specs.Worlds.{World, IsSession, IsDelivered, moments_of}
+use Rattle.hk_world.specs.Worlds.{IsSession}
 use Rattle.hk_world.specs.declared.moment.Moment.{Moment}
-use Rattle.hk_replay.specs.Blocks.{Block, rows_of, block_by, structure_block, body_block, is_parameter_report, split_block, packet_block}
-use Rattle.hk_replay.specs.Truth.{IsTrueBlock}
+use Rattle.hk_replay.specs.Blocks.{rows_of, block_by, structure_block, body_block, is_parameter_report, split_block, packet_block}
 
 -- the structure under a key is that of a boot structure whose ID fits its octets
 key_is_short : (t : TailoringParts) (key : Key) (x : Structure) (boots : List Boot) → AllByRecursion (IsFitBoot t) boots

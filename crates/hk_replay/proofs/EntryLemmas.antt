@@ -1,5 +1,5 @@
 -- The outcome of a record stays what it is while its entries are read.
-use Rattle.std.proofs.Common.{◌≡◌, ℕ, List, [], ◌∷◌, ◌++◌, Option, Some, None, Result, Ok, Err, refl, sym, ap, subst, ◌∙◌}
+use Rattle.std.proofs.Common.{◌≡◌, ℕ, List, ◌++◌, Option, Some, None, Result, Ok, Err, refl, sym, ap, subst, ◌∙◌}
 use Rattle.std.specs.Prelude.{IfSome, IsSome, MatchResult}
 use Rattle.hk_base.specs.TailoringParts.{TailoringParts}
 use Rattle.std.specs.Result.{result_unwrap_or}
@@ -10,18 +10,18 @@ use Rattle.session_record.specs.declared.entry.Entry.{Entry}
 use Rattle.session_record.specs.declared.entry.RecordFault.{RecordFault}
 use Rattle.session_record.specs.declared.entry.RecordFault.TheVariants.{BadMagic, BadKind, Cut, TooLong, TooManyEntries, ReadFault, Memory}
 use Rattle.hk_replay.specs.Faults.{status_of_fault}
-use Rattle.hk_replay.specs.Transcripts.{Lines, Outcome, refused, no_lines, with_entry, with_entries, ended, ended_by, outcome_from, outcome}
+use Rattle.hk_replay.specs.Transcripts.{Lines, Outcome, stopped, no_lines, with_entry, with_entries, ended, ended_by, outcome_from, replay_outcome}
 use Rattle.hk_replay.specs.Replay.{EndsWith, EndsTo}
 
 -- what is still to come, after the lines so far, has the outcome of the whole record
 abbrev pub KeepsOutcome : TailoringParts → Option (List ℕ) → Option Lines → Reading → Option (List ℕ) → Type 0
-KeepsOutcome t was lines reader rest = IfSome was (λ octets. IfSome rest (λ left. outcome_from t lines (to_come reader left) ≡ outcome t octets) × IsSome rest)
+KeepsOutcome t was lines reader rest = IfSome was (λ octets. IfSome rest (λ left. outcome_from t lines (to_come reader left) ≡ replay_outcome t octets) × IsSome rest)
 
-none_told : IsSome {T = List ℕ} None → ⊥
+pub none_told : IsSome {T = List ℕ} None → ⊥
 none_told e = cc
 
 pub keeps_start : (t : TailoringParts) (was : Option (List ℕ)) → KeepsOutcome t was (Some no_lines) reading_at_start was
-unfolding outcome
+unfolding replay_outcome
 keeps_start t None = tt
 keeps_start t (Some octets) = (refl, refl)
 
@@ -45,7 +45,7 @@ same_header : (h : Header) (fault : Option RecordFault) (room offset : ℕ) (oct
 same_header h None room offset octets b e = sym (same_ok (h, entries_from room offset octets) b e)
 same_header h (Some fault) room offset octets b e = sym (same_ok (h, no_entries (Some fault)) b e)
 
-header_of_rest : (s : Reading) (a : List ℕ) (b : Header × Entries) (h : Header) → s.header ≡ Some h → to_come s a ≡ Ok b → b.0 ≡ h
+pub header_of_rest : (s : Reading) (a : List ℕ) (b : Header × Entries) (h : Header) → s.header ≡ Some h → to_come s a ≡ Ok b → b.0 ≡ h
 header_of_rest s a b h is e = same_header h s.fault s.room s.offset (s.held ++ a) b (ap (λ o. read_on o s.fault s.room s.offset (s.held ++ a)) (sym is) ∙ e)
 
 end_is : (t : TailoringParts) (lines : Option Lines) (before after : Result (Header × Entries) RecordFault) (o : Outcome)
@@ -60,16 +60,16 @@ end_by_header t lines s a o (Some h) is b e end = end ∙ ap (λ x. ended x line
 
 -- the end of the entries
 pub ends_to : (t : TailoringParts) (was mid after : Option (List ℕ)) (lines : Option Lines) (r s : Reading)
-    → KeepsOutcome t was lines r mid → Answers (Ok None) r mid s after → IfSome was (λ octets. EndsTo (Ok lines) s.header (outcome t octets))
+    → KeepsOutcome t was lines r mid → Answers (Ok None) r mid s after → IfSome was (λ octets. EndsTo (Ok lines) s.header (replay_outcome t octets))
 ends_to t None mid after lines r s keeps answer = tt
 ends_to t (Some octets) None after lines r s keeps answer = absurd (none_told keeps.1)
 ends_to t (Some octets) (Some m) None lines r s keeps answer = absurd (none_told answer.1)
 ends_to t (Some octets) (Some m) (Some a) lines r s keeps answer =
-    let end = end_is t lines (to_come r m) (to_come s a) (outcome t octets) keeps.0 answer.0 in
-    end_by_header t lines s a (outcome t octets) s.header refl end.0 end.1 end.2
+    let end = end_is t lines (to_come r m) (to_come s a) (replay_outcome t octets) keeps.0 answer.0 in
+    end_by_header t lines s a (replay_outcome t octets) s.header refl end.0 end.1 end.2
 
 first_fault : (t : TailoringParts) (lines : Option Lines) (fault : RecordFault) (before : Result (Header × Entries) RecordFault)
-    → MatchResult before (λ b. b.1 ≡ no_entries (Some fault)) (λ f. ⊥) → outcome_from t lines before ≡ refused fault
+    → MatchResult before (λ b. b.1 ≡ no_entries (Some fault)) (λ f. ⊥) → outcome_from t lines before ≡ stopped (status_of_fault fault)
 first_fault t lines fault (Ok b) h = ap (λ es. ended_by b.0 es.fault (with_entries t lines es.list)) h
 first_fault t lines fault (Err f) h = absurd h
 
@@ -85,7 +85,7 @@ fault_ends t lines Memory before after h = tt
 
 -- a fault of the record, of the shelf or of memory
 pub ends_with : (t : TailoringParts) (was mid after : Option (List ℕ)) (lines : Option Lines) (r s : Reading) (fault : RecordFault)
-    → KeepsOutcome t was lines r mid → Answers (Err fault) r mid s after → IfSome was (λ octets. EndsWith (status_of_fault fault) (outcome t octets))
+    → KeepsOutcome t was lines r mid → Answers (Err fault) r mid s after → IfSome was (λ octets. EndsWith (status_of_fault fault) (replay_outcome t octets))
 ends_with t None mid after lines r s fault keeps answer = tt
 ends_with t (Some octets) None after lines r s fault keeps answer = absurd (none_told keeps.1)
 ends_with t (Some octets) (Some m) None lines r s fault keeps answer = absurd (none_told answer.1)

@@ -1,30 +1,32 @@
 -- The lines for the record of a world are true.
-use Rattle.std.proofs.Common.{◌≡◌, ◌+◌, ◌-◌, ◌<◌, ◌≤◌, ℕ, zero, suc, ℤ, Bool, true, false, cond, List, [], ◌∷◌, ◌++◌, length, map, Option, Some, None, Result, Ok, Err, refl, sym, ap, subst, ◌∙◌, arith}
-use Rattle.std.specs.Prelude.{reverse, filter_map, flat_map, slice_get, nat_lt, IfSome}
-use Rattle.std.specs.List.{AllZip, AllByRecursion, cons_option}
+use Rattle.std.proofs.Common.{◌≡◌, ◌-◌, ◌<◌, ◌≤◌, ℕ, true, false, cond, List, [], ◌∷◌, ◌++◌, map, Option, Some, None, refl, sym, ap, subst, ◌∙◌, arith}
+use Rattle.std.specs.Prelude.{reverse, filter_map, flat_map, IfSome, if◌then◌else◌}
+use Rattle.std.specs.Option.{option_and_then, option_map}
+use Rattle.std.specs.List.{AllZip, AllByRecursion}
 use Rattle.std.proofs.lemmas.Bool.{lt-ltb}
 use Rattle.std.proofs.lemmas.List.{append_assoc, append-nil, reverse-append, map-append}
 use Rattle.hk_base.specs.TailoringParts.{TailoringParts}
 use Rattle.hk_base.specs.Fit.{slot_of}
 use Rattle.hk_base.specs.Payload.{places}
-use Rattle.hk_base.specs.declared.types.Place.{Place}
 use Rattle.hk_base.proofs.Membership.{AllByRecursion-append}
-use Rattle.session_record.specs.Records.{Entries, header_of, read_record}
+use Rattle.session_record.specs.Records.{header_of}
 use Rattle.session_record.specs.declared.entry.Entry.{Entry}
 use Rattle.session_record.specs.declared.entry.Entry.TheVariants.{Sent, Got, Line}
-use Rattle.hk_world.specs.Timelines.{EachAfter, Session, tailoring}
+use Rattle.hk_world.specs.Timelines.{EachAfter, tailoring}
 use Rattle.hk_world.specs.Honest.{IsFiled}
 use Rattle.hk_world.specs.Worlds as worlds
 use Rattle.hk_world.specs.Worlds.{World, Step, IsWorld, IsSession, IsDelivered, moments_of, deliveries_of, entries_seen}
 use Rattle.hk_world.specs.declared.moment.Moment.{Moment}
 use Rattle.hk_world.proofs.WorldLemmas.{delivered_reports}
 use Rattle.hk_replay.specs.Blocks.{Block, block_lines, rows_of, packet_block}
-use Rattle.hk_replay.specs.Transcripts.{Lines, Outcome, written, no_lines, with_block, with_entry, with_entries, ended, ended_by, outcome_from, outcome}
-use Rattle.hk_replay.specs.Replay.{HasOutput, EndsWith}
+use Rattle.hk_replay.specs.Transcripts.{Lines, Outcome, written, no_lines, with_block, with_entry, with_entries, ended, outcome_from, replay_outcome}
+use Rattle.hk_base.specs.Builtin.{builtin}
+use Rattle.hk_replay.specs.Words.{Command, replay, trim, command_of, is_replay}
+use Rattle.hk_replay.specs.Replay.{HasOutput, command_outcome, octets_of, told_outcome, replayed_octets}
 use Rattle.hk_replay.specs.Truth.{seen, IsRecordOf, delivered, IsTrueBlock, IsTrueText, IsTrueRun}
 use Rattle.hk_replay.specs.declared.status.ReplayStatus.{ReplayStatus}
 use Rattle.hk_replay.specs.declared.status.ReplayStatus.TheVariants.{Done, Usage, Record, ReadFault, WriteFault, NoMemory, NotBuilt}
-use Rattle.hk_replay.proofs.BlockLemmas.{IsRead, report_is_read, map-zip, row-zip, filed_later}
+use Rattle.hk_replay.proofs.BlockLemmas.{report_is_read, map-zip, row-zip, filed_later}
 
 -- a moment whose packet has a true block
 pub record IsTold (w : World) (m : Moment) : Type 0 where
@@ -173,8 +175,8 @@ pub record IsTrueOutcome (w : World) (o : Outcome) : Type 0 where
   pub is_true : IsTrueText w text
   pub outcome_is : o ≡ written text
 
-true_outcome : (w : World) (octets : List ℕ) → IsWorld w → IsRecordOf w octets → IsTrueOutcome w (outcome (tailoring w.session) octets)
-unfolding outcome
+true_outcome : (w : World) (octets : List ℕ) → IsWorld w → IsRecordOf w octets → IsTrueOutcome w (replay_outcome (tailoring w.session) octets)
+unfolding replay_outcome
 true_outcome w octets world is =
     let t = tailoring w.session in
     let reports = delivered_reports w.session w.steps world.steps in
@@ -199,15 +201,30 @@ true_run_by w NotBuilt text before after is h = h.0
 
 -- what a run on the record of a world writes is true
 pub true_run : (w : World) (octets : List ℕ) (status : ReplayStatus) (t : TailoringParts) (before after : Option (List ℕ)) → IsWorld w → tailoring w.session ≡ t → IsRecordOf w octets
-    → HasOutput status (outcome t octets) before after → IsTrueRun w status before after
+    → HasOutput status (replay_outcome t octets) before after → IsTrueRun w status before after
 true_run w octets status t before after world same is h =
     let o = true_outcome w octets world is in
     true_run_by w status o.text before after o.is_true
-    (subst (λ x. HasOutput status x before after) o.outcome_is (subst (λ p. HasOutput status (outcome p octets) before after) (sym same) h))
+    (subst (λ x. HasOutput status x before after) o.outcome_is (subst (λ p. HasOutput status (replay_outcome p octets) before after) (sym same) h))
 
--- the same where the input is told
-pub true_run_told : (input : Option (List ℕ)) (status : ReplayStatus) (t : TailoringParts) (before after : Option (List ℕ))
-    → IfSome input (λ octets. HasOutput status (outcome t octets) before after)
-    → IfSome input (λ octets. (w : World) → IsWorld w → tailoring w.session ≡ t → IsRecordOf w octets → IsTrueRun w status before after)
-true_run_told None status t before after h = tt
-true_run_told (Some octets) status t before after h = λ w world same is. true_run w octets status t before after world same is h
+-- what is promised of the record of a world, where the octets to replay are told
+abbrev AreTrue : Option (List ℕ) → ReplayStatus → Option (List ℕ) → Option (List ℕ) → Type 0
+AreTrue octets status before after = IfSome octets (λ o. (w : World) → IsWorld w → tailoring w.session ≡ builtin → IsRecordOf w o → IsTrueRun w status before after)
+
+true_octets : (octets : Option (List ℕ)) (status : ReplayStatus) (before after : Option (List ℕ))
+    → IfSome (option_map (replay_outcome builtin) octets) (λ o. HasOutput status o before after) → AreTrue octets status before after
+true_octets None status before after h = tt
+true_octets (Some octets) status before after h = λ w world same is. true_run w octets status builtin before after world same is h
+
+true_command : (command : Option Command) (files : Option (List (List ℕ × List ℕ))) (status : ReplayStatus) (before after : Option (List ℕ))
+    → IfSome (option_and_then (λ c. option_map (command_outcome c) (octets_of files c)) command) (λ o. HasOutput status o before after)
+    → AreTrue (option_and_then (λ c. if is_replay c then octets_of files c else None) command) status before after
+true_command None files status before after h = tt
+true_command (Some (replay name)) files status before after h = true_octets (octets_of files (replay name)) status before after h
+true_command (Some (trim name)) files status before after h = tt
+
+-- what a run writes is true of the world whose record it replays
+pub true_words : (words : List (List ℕ)) (files : Option (List (List ℕ × List ℕ))) (status : ReplayStatus) (before after : Option (List ℕ))
+    → IfSome (told_outcome files words) (λ o. HasOutput status o before after)
+    → IfSome (replayed_octets files words) (λ o. (w : World) → IsWorld w → tailoring w.session ≡ builtin → IsRecordOf w o → IsTrueRun w status before after)
+true_words words files status before after h = true_command (command_of words) files status before after h

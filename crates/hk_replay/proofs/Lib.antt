@@ -1,5 +1,5 @@
-pub mod Steps
 pub mod LineLemmas
 pub mod EntryLemmas
 pub mod BlockLemmas
 pub mod HeadlineLemmas
+pub mod TrimLemmas

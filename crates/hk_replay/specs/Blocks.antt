@@ -7,7 +7,6 @@ use Rattle.hk_base.specs.Fit.{slot_of}
 use Rattle.hk_base.specs.Parameters.{boot_structure}
 use Rattle.hk_base.specs.Payload.{places, payload_read}
 use Rattle.hk_base.specs.declared.types.Place.{Place}
-use Rattle.hk_base.specs.declared.types.Key.{Key}
 use Rattle.hk_base.specs.declared.types.Definition.{Definition}
 use Rattle.hk_base.specs.declared.types.Structure.{Structure}
 use Rattle.hk_base.specs.declared.types.PayloadFault.{PayloadFault}

@@ -3,7 +3,6 @@ use Rattle.std.specs.Prelude.{ℕ, List, [], ◌++◌, codes}
 use Rattle.std.specs.Fmt.{decimal}
 use Rattle.session_record.specs.declared.entry.RecordFault.{RecordFault}
 use Rattle.session_record.specs.declared.entry.RecordFault.TheVariants as fault
-use Rattle.hk_replay.specs.declared.status.RecordProblem.{RecordProblem}
 use Rattle.hk_replay.specs.declared.status.RecordProblem.TheVariants.{Format}
 use Rattle.hk_replay.specs.declared.status.ReplayStatus.{ReplayStatus}
 use Rattle.hk_replay.specs.declared.status.ReplayStatus.TheVariants.{Done, Usage, Record, ReadFault, WriteFault, NoMemory, NotBuilt}

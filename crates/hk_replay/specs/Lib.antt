@@ -2,6 +2,7 @@ pub mod Faults
 pub mod Blocks
 pub mod Transcripts
 pub mod Words
-pub mod Transfer
+pub mod Asked
+pub mod Trimming
 pub mod Replay
 pub mod Truth

@@ -1,32 +1,43 @@
 -- What the program promises of one run.
-use Rattle.std.specs.Prelude.{◌≡◌, ⊤, ℕ, List, Option, Some, None, Result, Ok, Err, IfSome, IfErr, length}
-use Rattle.std.specs.Option.{option_and_then}
+use Rattle.std.specs.Prelude.{◌≡◌, ◌≤◌, ⊤, ℕ, List, ◌++◌, Option, Some, None, Result, Ok, Err, IfSome, IfErr, length, if◌then◌else◌}
+use Rattle.std.specs.Option.{option_and_then, option_map}
 use Rattle.hk_base.specs.Outside.{file_of}
 use Rattle.session_record.specs.declared.header.Header.{Header}
-use Rattle.session_record.specs.declared.entry.RecordFault.{RecordFault}
-use Rattle.hk_replay.specs.Words.{record_of}
-use Rattle.hk_replay.specs.Faults.{status_of_fault}
-use Rattle.hk_replay.specs.Transcripts.{Lines, Outcome, written, refused, not_built, ended}
-use Rattle.hk_replay.specs.Transfer.{HasWritten, HasWrittenPrefix}
+use Rattle.hk_base.specs.Builtin.{builtin}
+use Rattle.hk_replay.specs.Words.{Command, replay, trim, command_of, record_name, is_replay}
+use Rattle.hk_replay.specs.Transcripts.{Lines, Outcome, written, stopped, ended, replay_outcome, trim_outcome}
+use Rattle.session_record.specs.Writing.{HasWritten}
 use Rattle.hk_replay.specs.declared.status.ReplayStatus.{ReplayStatus}
-use Rattle.hk_replay.specs.declared.status.ReplayStatus.TheVariants.{Done, Usage, Record, ReadFault, WriteFault, NoMemory, NotBuilt}
+use Rattle.hk_replay.specs.declared.status.ReplayStatus.TheVariants.{Done, Usage, ReadFault, WriteFault, NoMemory}
 
--- the octets of the named record, where the shelf tells its files and has the name
-abbrev pub input_of : Option (List (List ℕ × List ℕ)) → List (List ℕ) → Option (List ℕ)
-input_of files words = option_and_then (λ all. option_and_then (file_of all) (record_of words)) files
+-- what a command makes of the octets of its record
+abbrev pub command_outcome : Command → List ℕ → Outcome
+command_outcome (replay name) octets = replay_outcome builtin octets
+command_outcome (trim name) octets = trim_outcome octets
 
--- a run that ended before it wrote anything, by what its input is
+-- the octets of a command's record, where the shelf tells its files and has the name
+abbrev pub octets_of : Option (List (List ℕ × List ℕ)) → Command → Option (List ℕ)
+octets_of files command = option_and_then (λ all. file_of all (record_name command)) files
+
+-- what a run makes of the files that the shelf tells, if all goes well
+abbrev pub told_outcome : Option (List (List ℕ × List ℕ)) → List (List ℕ) → Option Outcome
+told_outcome files words = option_and_then (λ command. option_map (command_outcome command) (octets_of files command)) (command_of words)
+
+-- the octets of the record that the words say to replay
+abbrev pub replayed_octets : Option (List (List ℕ × List ℕ)) → List (List ℕ) → Option (List ℕ)
+replayed_octets files words = option_and_then (λ command. if is_replay command then octets_of files command else None) (command_of words)
+
+-- A run that ended before it wrote anything, by what there was to write. A failing shelf and want of memory end any run.
 abbrev pub EndsWith : ReplayStatus → Outcome → Type 0
-EndsWith (Record problem) (refused fault) = status_of_fault fault ≡ Record problem
-EndsWith NotBuilt not_built = ⊤
 EndsWith ReadFault outcome = ⊤
 EndsWith NoMemory outcome = ⊤
-EndsWith status outcome = ⊥
+EndsWith status (stopped known) = status ≡ known
+EndsWith status (written text) = ⊥
 
 -- what was read is the outcome of the record's octets
-abbrev pub ReadsTo : Result Lines ReplayStatus → Outcome → Type 0
-ReadsTo (Ok lines) outcome = outcome ≡ written lines.text
-ReadsTo (Err status) outcome = EndsWith status outcome
+abbrev pub ReadsTo : {X : Type 0} → (X → List ℕ) → Result X ReplayStatus → Outcome → Type 0
+ReadsTo text (Ok x) outcome = outcome ≡ written (text x)
+ReadsTo text (Err status) outcome = EndsWith status outcome
 
 -- the entries were read to their end, and a header before them
 abbrev pub EndsTo : Result (Option Lines) ReplayStatus → Option Header → Outcome → Type 0
@@ -59,9 +70,17 @@ WritesNothing WriteFault before after = ⊤
 WritesNothing NoMemory before after = ⊤
 WritesNothing status before after = after ≡ before
 
--- what was written, by the status and what the record's octets are: the whole text, a first part of it, or nothing
+-- a first part of a text was written
+abbrev pub IsPrefixWritten : Option (List ℕ) → List ℕ → Option (List ℕ) → Type 0
+IsPrefixWritten before text after = (count : ℕ) × (count ≤ length text) × HasWritten before text count after
+
+-- all of a text was written
+abbrev pub IsWritten : Option (List ℕ) → List ℕ → Option (List ℕ) → Type 0
+IsWritten before text after = IfSome before (λ taken. after ≡ Some (taken ++ text))
+
+-- what was written, by the status and what there was to write: the whole text, a first part of it, or nothing
 abbrev pub HasOutput : ReplayStatus → Outcome → Option (List ℕ) → Option (List ℕ) → Type 0
-HasOutput Done (written text) before after = HasWritten before text (length text) after
-HasOutput WriteFault (written text) before after = HasWrittenPrefix before text after
-HasOutput NoMemory (written text) before after = HasWrittenPrefix before text after
+HasOutput Done (written text) before after = IsWritten before text after
+HasOutput WriteFault (written text) before after = IsPrefixWritten before text after
+HasOutput NoMemory (written text) before after = IsPrefixWritten before text after
 HasOutput status outcome before after = EndsWith status outcome × (after ≡ before)

@@ -1,5 +1,5 @@
 -- When what is written is true of what a board did.
-use Rattle.std.specs.Prelude.{◌≡◌, ⊤, ℕ, ◌-◌, ℤ, List, [], map, reverse, flat_map, length, slice_get, true, false, Option, Some, None, Ok, filter_map}
+use Rattle.std.specs.Prelude.{◌≡◌, ℕ, ◌-◌, ℤ, List, map, reverse, flat_map, slice_get, true, false, Option, Some, None, Ok, filter_map}
 use Rattle.std.specs.List.{AllZip}
 use Rattle.hk_base.specs.Fit.{slot_of}
 use Rattle.hk_base.specs.Payload.{places}
@@ -10,11 +10,11 @@ use Rattle.hk_world.specs.Honest.{housekeeping}
 use Rattle.hk_world.specs.Worlds as worlds
 use Rattle.hk_world.specs.Worlds.{World, IsTrueValue, deliveries_of, entries_seen, world_state_at}
 use Rattle.hk_world.specs.declared.moment.Moment.{Moment}
-use Rattle.session_record.specs.Records.{Entries, header_of, read_record}
+use Rattle.session_record.specs.Records.{header_of, read_record}
 use Rattle.session_record.specs.declared.entry.Entry.{Entry}
 use Rattle.session_record.specs.declared.entry.Entry.TheVariants.{Sent, Got, Line}
 use Rattle.hk_replay.specs.Blocks.{Block, block_lines}
-use Rattle.hk_replay.specs.Transfer.{HasWritten, HasWrittenPrefix}
+use Rattle.hk_replay.specs.Replay.{IsWritten, IsPrefixWritten}
 use Rattle.hk_replay.specs.declared.status.ReplayStatus.{ReplayStatus}
 use Rattle.hk_replay.specs.declared.status.ReplayStatus.TheVariants.{Done, Usage, Record, ReadFault, WriteFault, NoMemory, NotBuilt}
 
@@ -50,9 +50,9 @@ pub record IsTrueText (w : World) (text : List ℕ) : Type 0 where
 
 -- What a run on the record of a world wrote: the whole of a true text, or a first part of it, or nothing where reading failed. It ends in no other way.
 abbrev pub IsTrueRun : World → ReplayStatus → Option (List ℕ) → Option (List ℕ) → Type 0
-IsTrueRun w Done before after = (text : List ℕ) × IsTrueText w text × HasWritten before text (length text) after
-IsTrueRun w WriteFault before after = (text : List ℕ) × IsTrueText w text × HasWrittenPrefix before text after
-IsTrueRun w NoMemory before after = (text : List ℕ) × IsTrueText w text × HasWrittenPrefix before text after
+IsTrueRun w Done before after = (text : List ℕ) × IsTrueText w text × IsWritten before text after
+IsTrueRun w WriteFault before after = (text : List ℕ) × IsTrueText w text × IsPrefixWritten before text after
+IsTrueRun w NoMemory before after = (text : List ℕ) × IsTrueText w text × IsPrefixWritten before text after
 IsTrueRun w ReadFault before after = after ≡ before
 IsTrueRun w Usage before after = ⊥
 IsTrueRun w (Record problem) before after = ⊥

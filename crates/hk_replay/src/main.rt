@@ -1,13 +1,14 @@
 //! The ground's decoder of housekeeping reports.
 #![tactic(auto)]
 
+mod draft;
 mod lines;
 mod outside;
 mod record;
 mod replay;
 mod status;
 mod transcript;
-mod transfer;
+mod trim;
 mod words;
 
 use crate::outside::{FileShelf, OutSink};

@@ -2,7 +2,7 @@
 ghost use Rattle.std.specs.Prelude.{◌≡◌, IsErrOf, IfSome, IsSome, OnOk, IfOk};
 ghost use Rattle.hk_base.specs.Outside.{HasRisen};
 ghost use Rattle.session_record.specs.Reading.{reading_at_start, to_come};
-ghost use Rattle.hk_replay.specs.Transcripts.{outcome};
+ghost use Rattle.hk_replay.specs.Transcripts.{replay_outcome};
 ghost use Rattle.hk_replay.specs.Replay.{ReadsTo, EndsTo, IsOfReading};
 
 use crate::status::ReplayStatus;
@@ -12,7 +12,7 @@ use session_record::RecordReader;
 use std::alloc::Global;
 
 /// The most octets that are asked of the shelf at a time.
-const PIECE_OCTETS: u32 = 65_536;
+pub const PIECE_OCTETS: u32 = 65_536;
 
 /// The lines for the record that the shelf has selected, or how the run ends without them.
 pub fn replayed<F: Shelf>(
@@ -20,7 +20,7 @@ pub fn replayed<F: Shelf>(
     tailoring: &Tailoring,
     shelf: &mut F,
 ) -> Result<Transcript, ReplayStatus>
-    ensures outcome { IfSome (F.rest shelf.old) (λ octets. ReadsTo result (outcome tailoring.now octets)) }
+    ensures outcome { IfSome (F.rest shelf.old) (λ octets. ReadsTo (λ transcript. transcript.text) result (replay_outcome tailoring.now octets)) }
     ensures failed { IsErrOf result ReplayStatus.ReadFault → HasRisen (F.faults shelf.old) (F.faults shelf.new) }
     ensures sound { F.is_sound shelf.old → IsSome (F.rest shelf.old) → F.faults shelf.new ≡ F.faults shelf.old }
     ensures early { IsOfReading result }
@@ -42,7 +42,7 @@ fn entries<F: Shelf>(
     shelf: &mut F,
 ) -> Result<Option<Transcript>, ReplayStatus>
     requires { reader.old ≡ reading_at_start }
-    ensures outcome { IfSome (F.rest shelf.old) (λ octets. EndsTo result reader.new.header (outcome tailoring.now octets)) }
+    ensures outcome { IfSome (F.rest shelf.old) (λ octets. EndsTo result reader.new.header (replay_outcome tailoring.now octets)) }
     ensures header { OnOk result (IsSome reader.new.header) }
     ensures failed { IsErrOf result ReplayStatus.ReadFault → HasRisen (F.faults shelf.old) (F.faults shelf.new) }
     ensures sound { F.is_sound shelf.old → IsSome (F.rest shelf.old) → F.faults shelf.new ≡ F.faults shelf.old }

@@ -4,8 +4,8 @@ ghost use Rattle.hk_replay.specs.Faults.{fault_text, format_text, status_number,
 ghost use Rattle.hk_replay.specs.declared.status.ReplayStatus.TheVariants as status;
 ghost use Rattle.std.specs.String.{string_bytes};
 
-use hk_base::{Failed, Items, Memory, Octets};
-use session_record::RecordFault;
+use hk_base::{Items, Memory, Octets};
+use session_record::{RecordFault, WriteFault};
 use std::alloc::{AllocError, Global};
 use std::fmt::Write;
 
@@ -39,6 +39,15 @@ impl From<Memory> for ReplayStatus {
     ghost from_gives = { λ _ e. e ≡ status.NoMemory };
 
     fn from(_: Memory) -> ReplayStatus {
+        ReplayStatus::NoMemory
+    }
+}
+
+/// Octets are written to memory first, and that fails for want of memory alone.
+impl From<WriteFault> for ReplayStatus {
+    ghost from_gives = { λ _ e. e ≡ status.NoMemory };
+
+    fn from(_: WriteFault) -> ReplayStatus {
         ReplayStatus::NoMemory
     }
 }

@@ -43,10 +43,10 @@ impl Transcript {
     }
 
     /// The lines.
-    pub fn as_bytes(&self) -> &[u8]
-        ensures { result.now ≡ self.now.text }
+    pub fn into_octets(self) -> Vec<u8>
+        ensures { result.items ≡ self.text }
     {
-        self.text.as_bytes()
+        self.text.into_bytes()
     }
 }
 

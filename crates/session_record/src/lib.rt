@@ -12,7 +12,7 @@ mod writer;
 pub use entry::{Entry, RecordFault, WriteFault};
 pub use laws::{records_are_read_back, trimmed_is_the_longest_record};
 pub use reader::RecordReader;
-pub use writer::RecordWriter;
+pub use writer::{RecordWriter, write_all};
 
 #[cfg(test)]
 mod tests;

@@ -59,8 +59,8 @@ impl Entry {
     }
 }
 
-/// Writes all of the octets.
-fn write_all<K: Sink>(sink: &mut K, octets: &[u8]) -> Result<(), WriteFault>
+/// Writes all of the octets, in as many pieces as the sink takes. It takes no memory.
+pub fn write_all<K: Sink>(sink: &mut K, octets: &[u8]) -> Result<(), WriteFault>
     ensures written { Writes octets.now result (K.taken sink.old) (K.taken sink.new) }
     ensures count { WriteCounts result (K.faults sink.old) (K.faults sink.new) }
     ensures room { WritesWithin octets.now result (K.room sink.old) (K.room sink.new) }

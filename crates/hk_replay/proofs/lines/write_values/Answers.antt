@@ -1,4 +1,4 @@
-use Rattle.std.proofs.Common.{◌≡◌, ◌<◌, ◌++◌, drop, ℕ, ℤ, List, length, get_or, pos, FitsSigned, rules, arith, sym, ◌∙◌}
+use Rattle.std.proofs.Common.{◌<◌, length, get_or, pos, FitsSigned, rules, arith, sym, ◌∙◌}
 use Rattle.std.specs.Int.{w128}
 use Rattle.std.proofs.lemmas.Int.{to_z-of_z}
 use Rattle.hk_base.specs.Payload.{places}

@@ -1,7 +1,7 @@
-use Rattle.std.proofs.Common.{◌≡◌, Some, refl, sym, subst}
+use Rattle.std.proofs.Common.{Some, refl, sym, subst}
 use Rattle.std.proofs.lemmas.Result.{err_from_is_err_and}
 use Rattle.session_record.specs.Reading.{Reading, reading_at_start}
-use Rattle.hk_replay.specs.Transcripts.{Lines, no_lines}
+use Rattle.hk_replay.specs.Transcripts.{Lines}
 use Rattle.hk_replay.proofs.EntryLemmas.{KeepsOutcome, keeps_start, ends_with}
 use Rattle.hk_replay.proofs.record.entries.Goals as goal
 

@@ -7,6 +7,10 @@ mod outside;
 mod record;
 mod replay;
 mod status;
+#[cfg(test)]
+mod tests;
+#[cfg(test)]
+mod tests_below;
 mod transcript;
 mod trim;
 mod words;

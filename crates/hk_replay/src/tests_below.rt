@@ -1,0 +1,115 @@
+//! Calls of the crates below that want memory, each once.
+ghost use Rattle.std.specs.Prelude.{◌≤◌};
+
+use hk_base::{
+    Definition, Failed, Form, Items, Key, Kind, Memory, Param, Sensor, Structure, SuperList,
+    TableSensor, builtin, put_int, put_uint,
+};
+use hk_world::{Act, Journal, Moment};
+use std::alloc::Global;
+use std::test::Fail;
+
+#[test]
+fn numbers_are_spelt(rt: HostRuntime) -> Result<(), Fail> {
+    let mut octets = Vec::new(rt.alloc());
+    put_uint(&mut octets, 2, 6)?;
+    put_uint(&mut octets, 4, 0x0003_0008)?;
+    put_int(&mut octets, 1, -4)?;
+    let expected: &[u8] = &[0, 6, 0, 3, 0, 8, 0xfc];
+    assert_eq!(rt; octets.as_slice(), expected);
+    Ok(())
+}
+
+fn is_same_form(a: &Form, b: &Form) -> bool {
+    match (a, b) {
+        (Form::Unsigned, Form::Unsigned) => true,
+        (Form::Signed, Form::Signed) => true,
+        (Form::Enumerated(some), Form::Enumerated(others)) => some.as_slice() == others.as_slice(),
+        (Form::Boolean, Form::Boolean) => true,
+        _ => false,
+    }
+}
+
+fn is_same_param(a: &Param, b: &Param) -> bool {
+    a.id == b.id
+        && is_same_form(&a.form, &b.form)
+        && a.octets == b.octets
+        && a.bits == b.bits
+        && a.initial == b.initial
+}
+
+fn is_same_array(a: &SuperList, b: &SuperList) -> bool {
+    a.repetition == b.repetition && a.params.as_slice() == b.params.as_slice()
+}
+
+fn is_same_definition(a: &Definition, b: &Definition) -> bool {
+    let arrays = a.arrays.as_slice();
+    let others = b.arrays.as_slice();
+    a.interval == b.interval
+        && a.simple.as_slice() == b.simple.as_slice()
+        && arrays.len() == others.len()
+        && arrays
+            .iter()
+            .zip(others)
+            .all(|(one, other)| is_same_array(one, other))
+}
+
+#[test]
+fn copies_are_equal(rt: HostRuntime) -> Result<(), Fail> {
+    let alloc = rt.alloc();
+    let tailoring = builtin(alloc)?;
+    let copy = tailoring.copy(alloc)?;
+    assert_eq!(rt; copy.widths(), tailoring.widths());
+    for number in 0..14 {
+        let one = copy.param_at(number).ok_or("no parameter")?;
+        let other = tailoring.param_at(number).ok_or("no parameter")?;
+        assert!(rt; is_same_param(one, other), "parameter {number}");
+    }
+    assert_eq!(rt; copy.boots().len(), 4);
+    for (one, other) in copy.boots().iter().zip(tailoring.boots()) {
+        let again = other.structure.copy(alloc)?;
+        assert_eq!(rt; one.key, other.key);
+        assert_eq!(rt; one.structure.enabled, other.structure.enabled);
+        assert_eq!(rt; again.enabled, other.structure.enabled);
+        assert!(rt; is_same_definition(&one.structure.def, &other.structure.def));
+        assert!(rt; is_same_definition(&again.def, &other.structure.def));
+    }
+    Ok(())
+}
+
+#[test]
+fn a_table_is_read(rt: HostRuntime) -> Result<(), Fail> {
+    let alloc = rt.alloc();
+    let tailoring = builtin(alloc)?;
+    let param = tailoring.param(6).ok_or("no parameter")?;
+    let rows = Items::from_slice(alloc, &[(6, 2, 9)])?;
+    let mut sensor = TableSensor::new(rows, Items::from_slice(alloc, &[1])?);
+    assert_eq!(rt; sensor.read(param, 2), Err(Failed));
+    assert_eq!(rt; sensor.read(param, 2), Ok(9));
+    assert_eq!(rt; sensor.read(param, 3), Err(Failed));
+    Ok(())
+}
+
+fn moment(alloc: Global, tag: u64) -> Result<Moment, Memory> {
+    Ok(Moment {
+        tag,
+        act: Act::Emitted,
+        packet: Items::from_slice(alloc, &[])?,
+    })
+}
+
+#[test]
+fn moments_are_kept_in_order(rt: HostRuntime) -> Result<(), Fail> {
+    let alloc = rt.alloc();
+    let mut journal = Journal::new(alloc);
+    let first = Vec::from_array(alloc, [moment(alloc, 1)?, moment(alloc, 2)?])?;
+    journal.add(Items::from_vec(first))?;
+    let second = Vec::from_array(alloc, [moment(alloc, 3)?])?;
+    journal.add(Items::from_vec(second))?;
+    assert_eq!(rt; journal.len(), 3);
+    for number in 0..3 {
+        let moment = journal.at(number).ok_or("no moment")?;
+        assert_eq!(rt; moment.tag, u64::from(number) + 1);
+    }
+    Ok(())
+}

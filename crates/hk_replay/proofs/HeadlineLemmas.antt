@@ -1,5 +1,5 @@
 -- The lines for the record of a world are true.
-use Rattle.std.proofs.Common.{◌≡◌, ◌-◌, ◌<◌, ◌≤◌, ℕ, true, false, cond, List, [], ◌∷◌, ◌++◌, map, Option, Some, None, refl, sym, ap, subst, ◌∙◌, arith}
+use Rattle.std.proofs.Common.{◌≡◌, ◌-◌, ◌<◌, ◌≤◌, ℕ, true, false, cond, List, [], ◌∷◌, ◌++◌, map, Option, Some, None, Ok, refl, sym, ap, subst, ◌∙◌, arith}
 use Rattle.std.specs.Prelude.{reverse, filter_map, flat_map, IfSome, if◌then◌else◌}
 use Rattle.std.specs.Option.{option_and_then, option_map}
 use Rattle.std.specs.List.{AllZip, AllByRecursion}
@@ -20,12 +20,12 @@ use Rattle.hk_world.specs.declared.moment.Moment.{Moment}
 use Rattle.hk_world.proofs.WorldLemmas.{delivered_reports}
 use Rattle.hk_replay.specs.Blocks.{Block, block_lines, rows_of, packet_block}
 use Rattle.hk_replay.specs.Transcripts.{Lines, Outcome, written, no_lines, with_block, with_entry, with_entries, ended, outcome_from, replay_outcome}
-use Rattle.hk_base.specs.Builtin.{builtin}
-use Rattle.hk_replay.specs.Words.{Command, replay, trim, command_of, is_replay}
-use Rattle.hk_replay.specs.Replay.{HasOutput, command_outcome, octets_of, told_outcome, replayed_octets}
+use Rattle.hk_replay.specs.Words.{Command, replay, check, trim}
+use Rattle.hk_replay.specs.Replay.{HasOutput}
+use Rattle.hk_replay.specs.Inputs.{TellsOf, Replays}
 use Rattle.hk_replay.specs.Truth.{seen, IsRecordOf, delivered, IsTrueBlock, IsTrueText, IsTrueRun}
 use Rattle.hk_replay.specs.declared.status.ReplayStatus.{ReplayStatus}
-use Rattle.hk_replay.specs.declared.status.ReplayStatus.TheVariants.{Done, Usage, Record, ReadFault, WriteFault, NoMemory, NotBuilt}
+use Rattle.hk_replay.specs.declared.status.ReplayStatus.TheVariants.{Done, Usage, Tailoring, Record, ReadFault, WriteFault, NoMemory, NotBuilt}
 use Rattle.hk_replay.proofs.BlockLemmas.{report_is_read, map-zip, row-zip, filed_later}
 
 -- a moment whose packet has a true block
@@ -193,6 +193,7 @@ true_outcome w octets world is =
 true_run_by : (w : World) (status : ReplayStatus) (text : List ℕ) (before after : Option (List ℕ)) → IsTrueText w text → HasOutput status (written text) before after → IsTrueRun w status before after
 true_run_by w Done text before after is h = (text, is, h)
 true_run_by w Usage text before after is h = h.0
+true_run_by w (Tailoring fault) text before after is h = h.0
 true_run_by w (Record problem) text before after is h = h.0
 true_run_by w ReadFault text before after is h = h.1
 true_run_by w WriteFault text before after is h = (text, is, h)
@@ -207,24 +208,17 @@ true_run w octets status t before after world same is h =
     true_run_by w status o.text before after o.is_true
     (subst (λ x. HasOutput status x before after) o.outcome_is (subst (λ p. HasOutput status (replay_outcome p octets) before after) (sym same) h))
 
--- what is promised of the record of a world, where the octets to replay are told
-abbrev AreTrue : Option (List ℕ) → ReplayStatus → Option (List ℕ) → Option (List ℕ) → Type 0
-AreTrue octets status before after = IfSome octets (λ o. (w : World) → IsWorld w → tailoring w.session ≡ builtin → IsRecordOf w o → IsTrueRun w status before after)
-
-true_octets : (octets : Option (List ℕ)) (status : ReplayStatus) (before after : Option (List ℕ))
-    → IfSome (option_map (replay_outcome builtin) octets) (λ o. HasOutput status o before after) → AreTrue octets status before after
-true_octets None status before after h = tt
-true_octets (Some octets) status before after h = λ w world same is. true_run w octets status builtin before after world same is h
-
-true_command : (command : Option Command) (files : Option (List (List ℕ × List ℕ))) (status : ReplayStatus) (before after : Option (List ℕ))
-    → IfSome (option_and_then (λ c. option_map (command_outcome c) (octets_of files c)) command) (λ o. HasOutput status o before after)
-    → AreTrue (option_and_then (λ c. if is_replay c then octets_of files c else None) command) status before after
-true_command None files status before after h = tt
-true_command (Some (replay name)) files status before after h = true_octets (octets_of files (replay name)) status before after h
-true_command (Some (trim name)) files status before after h = tt
+-- what is made of the files of a world's replay is the outcome of its record
+replay_tells : (command : Option Command) (files : Option (List (List ℕ × List ℕ))) (t : TailoringParts) (octets : List ℕ) → Replays files command t octets
+    → TellsOf files command (replay_outcome t octets)
+replay_tells None files t octets r = absurd r
+replay_tells (Some (check tailoring)) files t octets r = absurd r
+replay_tells (Some (trim name)) files t octets r = absurd r
+replay_tells (Some (replay tailoring name)) files t octets r = (Ok t, r.0, ap (option_map (replay_outcome t)) r.1)
 
 -- what a run writes is true of the world whose record it replays
-pub true_words : (words : List (List ℕ)) (files : Option (List (List ℕ × List ℕ))) (status : ReplayStatus) (before after : Option (List ℕ))
-    → IfSome (told_outcome files words) (λ o. HasOutput status o before after)
-    → IfSome (replayed_octets files words) (λ o. (w : World) → IsWorld w → tailoring w.session ≡ builtin → IsRecordOf w o → IsTrueRun w status before after)
-true_words words files status before after h = true_command (command_of words) files status before after h
+pub true_words : (command : Option Command) (files : Option (List (List ℕ × List ℕ))) (status : ReplayStatus) (before after : Option (List ℕ))
+    → ((outcome : Outcome) → TellsOf files command outcome → HasOutput status outcome before after)
+    → (w : World) → IsWorld w → (octets : List ℕ) → Replays files command (tailoring w.session) octets → IsRecordOf w octets → IsTrueRun w status before after
+true_words command files status before after told w world octets r is =
+    true_run w octets status (tailoring w.session) before after world refl is (told (replay_outcome (tailoring w.session) octets) (replay_tells command files (tailoring w.session) octets r))

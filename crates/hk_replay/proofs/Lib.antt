@@ -3,3 +3,5 @@ pub mod EntryLemmas
 pub mod BlockLemmas
 pub mod HeadlineLemmas
 pub mod TrimLemmas
+pub mod TailoringLemmas
+pub mod FileLemmas

@@ -1,16 +1,20 @@
 -- The number and the text of each status.
 use Rattle.std.specs.Prelude.{ℕ, List, [], ◌++◌, codes}
 use Rattle.std.specs.Fmt.{decimal}
+use Rattle.hk_tailoring.specs.Texts.{fault_text as tailoring_text}
+use Rattle.hk_tailoring.specs.declared.fault.TailoringFault.{TailoringFault}
+use Rattle.hk_tailoring.specs.declared.fault.TailoringFault.TheVariants.{Memory}
 use Rattle.session_record.specs.declared.entry.RecordFault.{RecordFault}
 use Rattle.session_record.specs.declared.entry.RecordFault.TheVariants as fault
 use Rattle.hk_replay.specs.declared.status.RecordProblem.TheVariants.{Format}
 use Rattle.hk_replay.specs.declared.status.ReplayStatus.{ReplayStatus}
-use Rattle.hk_replay.specs.declared.status.ReplayStatus.TheVariants.{Done, Usage, Record, ReadFault, WriteFault, NoMemory, NotBuilt}
+use Rattle.hk_replay.specs.declared.status.ReplayStatus.TheVariants.{Done, Usage, Tailoring, Record, ReadFault, WriteFault, NoMemory, NotBuilt}
 
 -- the exit status of the program
 abbrev pub status_number : ReplayStatus → ℕ
 status_number Done = 0
 status_number Usage = 2
+status_number (Tailoring fault) = 3
 status_number (Record problem) = 4
 status_number ReadFault = 5
 status_number WriteFault = 6
@@ -27,6 +31,11 @@ status_of_fault (fault.Cut offset) = Record (Format (fault.Cut offset))
 status_of_fault (fault.TooLong offset) = Record (Format (fault.TooLong offset))
 status_of_fault (fault.TooManyEntries offset) = Record (Format (fault.TooManyEntries offset))
 
+-- how a run ends by a fault of its tailoring: want of memory has a status of its own
+abbrev pub status_of_tailoring : TailoringFault → ReplayStatus
+status_of_tailoring Memory = NoMemory
+status_of_tailoring fault = Tailoring fault
+
 -- the text of a fault of the format
 abbrev pub format_text : RecordFault → List ℕ
 format_text fault.BadMagic = codes "record: bad magic"
@@ -41,6 +50,7 @@ format_text fault.Memory = codes "no memory"
 abbrev pub fault_text : ReplayStatus → List ℕ
 fault_text Done = []
 fault_text Usage = codes "usage"
+fault_text (Tailoring f) = codes "tailoring: " ++ tailoring_text f
 fault_text (Record (Format f)) = format_text f
 fault_text ReadFault = codes "read fault"
 fault_text WriteFault = codes "write fault"

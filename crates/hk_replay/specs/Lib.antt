@@ -5,4 +5,5 @@ pub mod Words
 pub mod Asked
 pub mod Trimming
 pub mod Replay
+pub mod Inputs
 pub mod Truth

@@ -1,31 +1,10 @@
 -- What the program promises of one run.
-use Rattle.std.specs.Prelude.{◌≡◌, ◌≤◌, ⊤, ℕ, List, ◌++◌, Option, Some, None, Result, Ok, Err, IfSome, IfErr, length, if◌then◌else◌}
-use Rattle.std.specs.Option.{option_and_then, option_map}
-use Rattle.hk_base.specs.Outside.{file_of}
+use Rattle.std.specs.Prelude.{◌≡◌, ◌≤◌, ⊤, ℕ, List, ◌++◌, Option, Some, None, Result, Ok, Err, IfSome, IfErr, length}
 use Rattle.session_record.specs.declared.header.Header.{Header}
-use Rattle.hk_base.specs.Builtin.{builtin}
-use Rattle.hk_replay.specs.Words.{Command, replay, trim, command_of, record_name, is_replay}
-use Rattle.hk_replay.specs.Transcripts.{Lines, Outcome, written, stopped, ended, replay_outcome, trim_outcome}
+use Rattle.hk_replay.specs.Transcripts.{Lines, Outcome, written, stopped, ended}
 use Rattle.session_record.specs.Writing.{HasWritten}
 use Rattle.hk_replay.specs.declared.status.ReplayStatus.{ReplayStatus}
 use Rattle.hk_replay.specs.declared.status.ReplayStatus.TheVariants.{Done, Usage, ReadFault, WriteFault, NoMemory}
-
--- what a command makes of the octets of its record
-abbrev pub command_outcome : Command → List ℕ → Outcome
-command_outcome (replay name) octets = replay_outcome builtin octets
-command_outcome (trim name) octets = trim_outcome octets
-
--- the octets of a command's record, where the shelf tells its files and has the name
-abbrev pub octets_of : Option (List (List ℕ × List ℕ)) → Command → Option (List ℕ)
-octets_of files command = option_and_then (λ all. file_of all (record_name command)) files
-
--- what a run makes of the files that the shelf tells, if all goes well
-abbrev pub told_outcome : Option (List (List ℕ × List ℕ)) → List (List ℕ) → Option Outcome
-told_outcome files words = option_and_then (λ command. option_map (command_outcome command) (octets_of files command)) (command_of words)
-
--- the octets of the record that the words say to replay
-abbrev pub replayed_octets : Option (List (List ℕ × List ℕ)) → List (List ℕ) → Option (List ℕ)
-replayed_octets files words = option_and_then (λ command. if is_replay command then octets_of files command else None) (command_of words)
 
 -- A run that ended before it wrote anything, by what there was to write. A failing shelf and want of memory end any run.
 abbrev pub EndsWith : ReplayStatus → Outcome → Type 0

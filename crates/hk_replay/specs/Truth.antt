@@ -16,7 +16,7 @@ use Rattle.session_record.specs.declared.entry.Entry.TheVariants.{Sent, Got, Lin
 use Rattle.hk_replay.specs.Blocks.{Block, block_lines}
 use Rattle.hk_replay.specs.Replay.{IsWritten, IsPrefixWritten}
 use Rattle.hk_replay.specs.declared.status.ReplayStatus.{ReplayStatus}
-use Rattle.hk_replay.specs.declared.status.ReplayStatus.TheVariants.{Done, Usage, Record, ReadFault, WriteFault, NoMemory, NotBuilt}
+use Rattle.hk_replay.specs.declared.status.ReplayStatus.TheVariants.{Done, Usage, Tailoring, Record, ReadFault, WriteFault, NoMemory, NotBuilt}
 
 -- what the ground saw by an entry of a record; a line of the journal is nothing that it saw
 abbrev pub seen : Entry → Option worlds.Entry
@@ -55,5 +55,6 @@ IsTrueRun w WriteFault before after = (text : List ℕ) × IsTrueText w text × 
 IsTrueRun w NoMemory before after = (text : List ℕ) × IsTrueText w text × IsPrefixWritten before text after
 IsTrueRun w ReadFault before after = after ≡ before
 IsTrueRun w Usage before after = ⊥
+IsTrueRun w (Tailoring fault) before after = ⊥
 IsTrueRun w (Record problem) before after = ⊥
 IsTrueRun w NotBuilt before after = ⊥

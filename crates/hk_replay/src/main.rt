@@ -7,6 +7,7 @@ mod outside;
 mod record;
 mod replay;
 mod status;
+mod tailorings;
 #[cfg(test)]
 mod tests;
 #[cfg(test)]
@@ -27,7 +28,7 @@ fn main(rt: HostRuntime) -> ExitCode {
         Ok(status) => status,
         Err(_) => ReplayStatus::NoMemory,
     };
-    if status != ReplayStatus::Done {
+    if status.number() != ReplayStatus::Done.number() {
         complain(&rt, &status);
     }
     ExitCode::from(status.number())

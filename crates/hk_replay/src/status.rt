@@ -1,10 +1,12 @@
 //! How a run ended.
-ghost use Rattle.std.specs.Prelude.{◌≡◌, IfOk};
-ghost use Rattle.hk_replay.specs.Faults.{fault_text, format_text, status_number, status_of_fault};
+ghost use Rattle.std.specs.Prelude.{◌≡◌, ◌++◌, codes, IfOk};
+ghost use Rattle.hk_replay.specs.Faults.{fault_text, format_text, status_number, status_of_fault, status_of_tailoring};
+ghost use Rattle.hk_tailoring.specs.Texts.{fault_text as fault_of_tailoring};
 ghost use Rattle.hk_replay.specs.declared.status.ReplayStatus.TheVariants as status;
 ghost use Rattle.std.specs.String.{string_bytes};
 
 use hk_base::{Items, Memory, Octets};
+use hk_tailoring::TailoringFault;
 use session_record::{RecordFault, WriteFault};
 use std::alloc::{AllocError, Global};
 use std::fmt::Write;
@@ -17,12 +19,14 @@ pub enum RecordProblem {
 }
 
 /// How a run ended.
-#[derive(Clone, Copy, Debug, PartialEq, Eq, Drop)]
+#[derive(Debug, Drop)]
 pub enum ReplayStatus {
     /// All was read and all was written.
     Done,
     /// The words are no form of the command.
     Usage,
+    /// The tailoring has a fault. `Memory` never stands here: it is a status of its own.
+    Tailoring(TailoringFault),
     /// The record has a fault.
     Record(RecordProblem),
     /// An input couldn't be selected or read.
@@ -52,6 +56,25 @@ impl From<WriteFault> for ReplayStatus {
     }
 }
 
+impl From<TailoringFault> for ReplayStatus {
+    ghost from_gives = { λ fault e. e ≡ status_of_tailoring fault };
+
+    fn from(fault: TailoringFault) -> ReplayStatus {
+        match fault {
+            TailoringFault::Memory => ReplayStatus::NoMemory,
+            fault => ReplayStatus::Tailoring(fault),
+        }
+    }
+}
+
+impl From<AllocError> for ReplayStatus {
+    ghost from_gives = { λ _ e. e ≡ status.NoMemory };
+
+    fn from(_: AllocError) -> ReplayStatus {
+        ReplayStatus::NoMemory
+    }
+}
+
 impl From<RecordFault> for ReplayStatus {
     ghost from_gives = { λ fault e. e ≡ status_of_fault fault };
 
@@ -72,6 +95,7 @@ impl ReplayStatus {
         match self {
             ReplayStatus::Done => 0,
             ReplayStatus::Usage => 2,
+            ReplayStatus::Tailoring(_) => 3,
             ReplayStatus::Record(_) => 4,
             ReplayStatus::ReadFault => 5,
             ReplayStatus::WriteFault => 6,
@@ -87,6 +111,7 @@ impl ReplayStatus {
         let text = match self {
             ReplayStatus::Done => String::new(alloc),
             ReplayStatus::Usage => String::from_str(alloc, "usage")?,
+            ReplayStatus::Tailoring(fault) => return tailoring_text(alloc, fault),
             ReplayStatus::Record(RecordProblem::Format(fault)) => format_text(alloc, *fault)?,
             ReplayStatus::ReadFault => String::from_str(alloc, "read fault")?,
             ReplayStatus::WriteFault => String::from_str(alloc, "write fault")?,
@@ -95,6 +120,15 @@ impl ReplayStatus {
         };
         Ok(Items::from_vec(text.into_bytes()))
     }
+}
+
+/// The text of a fault of the tailoring.
+fn tailoring_text(alloc: Global, fault: &TailoringFault) -> Result<Octets, Memory>
+    ensures { IfOk result (λ text. text ≡ codes "tailoring: " ++ fault_of_tailoring fault.now) }
+{
+    let mut text = Vec::from_slice(alloc, b"tailoring: ")?;
+    text.extend_from_slice(fault.text(alloc)?.as_slice())?;
+    Ok(Items::from_vec(text))
 }
 
 /// The text of a fault of the format.

@@ -1,0 +1,79 @@
+-- What the files of a run hold, and what is made of them.
+use Rattle.std.specs.Prelude.{◌≡◌, ℕ, true, false, List, [], ◌∷◌, ◌++◌, length, nat_lt, Option, Some, None, Result, Ok, Err, IfSome, IsSome, codes, if◌then◌else◌}
+use Rattle.std.specs.Option.{option_and_then, option_map}
+use Rattle.std.specs.Fmt.{decimal}
+use Rattle.hk_base.specs.Outside.{file_of}
+use Rattle.hk_base.specs.TailoringParts.{TailoringParts}
+use Rattle.hk_base.specs.Builtin.{builtin}
+use Rattle.hk_tailoring.specs.Files.{file_fault, IsOf}
+use Rattle.hk_tailoring.specs.declared.fault.TailoringFault.{TailoringFault}
+use Rattle.hk_tailoring.specs.declared.fault.TailoringFault.TheVariants.{TooLong}
+use Rattle.hk_replay.specs.Words.{TailoringName, standard, in_file, Command, replay, check, trim}
+use Rattle.hk_replay.specs.Transcripts.{Outcome, written, stopped, replay_outcome, trim_outcome}
+use Rattle.hk_replay.specs.Replay.{EndsWith}
+use Rattle.hk_replay.specs.declared.status.ReplayStatus.{ReplayStatus}
+use Rattle.hk_replay.specs.declared.status.ReplayStatus.TheVariants.{Tailoring}
+
+-- the most octets of a tailoring file
+abbrev pub most_file_octets : ℕ
+most_file_octets = 1048576
+
+-- the octets of a name, where the shelf tells its files and has the name
+abbrev pub octets_of : Option (List (List ℕ × List ℕ)) → List ℕ → Option (List ℕ)
+octets_of files name = option_and_then (λ all. file_of all name) files
+
+-- the fault of a tailoring file, if it has one: it is too long, or else the first fault of its document
+abbrev pub fault_of_file : List ℕ → Option TailoringFault
+fault_of_file octets = if nat_lt most_file_octets (length octets) then Some TooLong else file_fault octets
+
+-- what a tailoring file means: the tailoring that it states, if it has no fault, or else the fault
+abbrev pub IsMeaning : List ℕ → Result TailoringParts TailoringFault → Type 0
+IsMeaning octets (Ok t) = (fault_of_file octets ≡ None) × IsOf octets t
+IsMeaning octets (Err fault) = fault_of_file octets ≡ Some fault
+
+-- what the name of a tailoring means: the built-in one, or what the file that the shelf has of this name means
+abbrev pub StandsFor : Option (List (List ℕ × List ℕ)) → TailoringName → Result TailoringParts TailoringFault → Type 0
+StandsFor files standard meant = meant ≡ Ok builtin
+StandsFor files (in_file name) meant = IfSome (octets_of files name) (λ octets. IsMeaning octets meant) × IsSome (octets_of files name)
+
+-- what was read is what was meant, or the run ends by its fault
+abbrev pub IsMeant : Result TailoringParts ReplayStatus → Result TailoringParts TailoringFault → Type 0
+IsMeant (Ok t) meant = meant ≡ Ok t
+IsMeant (Err status) (Ok t) = EndsWith status (written [])
+IsMeant (Err status) (Err fault) = EndsWith status (stopped (Tailoring fault))
+
+-- the octets of a file came whole, or it is found too long, or the run ends for another cause
+abbrev pub IsWhole : List ℕ → Result (Option (List ℕ)) ReplayStatus → Type 0
+IsWhole octets (Ok (Some found)) = (found ≡ octets) × (nat_lt most_file_octets (length octets) ≡ false)
+IsWhole octets (Ok None) = nat_lt most_file_octets (length octets) ≡ true
+IsWhole octets (Err status) = EndsWith status (written [])
+
+-- the line that `check` writes
+abbrev pub check_text : TailoringParts → List ℕ
+check_text t = codes "tailoring ok parameters " ++ (decimal (length t.params) ++ (codes " structures " ++ (decimal (length t.boots) ++ 10 ∷ [])))
+
+-- the outcome of `check`
+abbrev pub check_outcome : Result TailoringParts TailoringFault → Outcome
+check_outcome (Ok t) = written (check_text t)
+check_outcome (Err fault) = stopped (Tailoring fault)
+
+-- The outcome of `replay` under what is meant by its tailoring. A fault of the tailoring comes before the record is looked for.
+abbrev pub replay_told : Option (List ℕ) → Result TailoringParts TailoringFault → Option Outcome
+replay_told octets (Ok t) = option_map (replay_outcome t) octets
+replay_told octets (Err fault) = Some (stopped (Tailoring fault))
+
+-- the files tell the outcome of a command, if all goes well
+abbrev pub Tells : Option (List (List ℕ × List ℕ)) → Command → Outcome → Type 0
+Tells files (replay tailoring name) outcome = (meant : Result TailoringParts TailoringFault) × StandsFor files tailoring meant × (replay_told (octets_of files name) meant ≡ Some outcome)
+Tells files (check tailoring) outcome = (meant : Result TailoringParts TailoringFault) × StandsFor files tailoring meant × (check_outcome meant ≡ outcome)
+Tells files (trim name) outcome = option_map trim_outcome (octets_of files name) ≡ Some outcome
+
+-- the same of words, if they are a command
+abbrev pub TellsOf : Option (List (List ℕ × List ℕ)) → Option Command → Outcome → Type 0
+TellsOf files None outcome = ⊥
+TellsOf files (Some command) outcome = Tells files command outcome
+
+-- words say to replay these octets under this tailoring
+abbrev pub Replays : Option (List (List ℕ × List ℕ)) → Option Command → TailoringParts → List ℕ → Type 0
+Replays files (Some (replay tailoring name)) t octets = StandsFor files tailoring (Ok t) × (octets_of files name ≡ Some octets)
+Replays files command t octets = ⊥

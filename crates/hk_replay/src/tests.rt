@@ -2,7 +2,8 @@ ghost use Rattle.std.specs.Prelude.{◌≤◌};
 
 use crate::replay::replay_main;
 use crate::status::{RecordProblem, ReplayStatus};
-use hk_base::{Items, MemShelf, MemSink, Memory};
+use hk_base::{Items, MemShelf, MemSink, Memory, Octets};
+use hk_tailoring::TailoringFault;
 use session_record::RecordFault;
 use std::alloc::{AllocError, Global};
 use std::process::Abort;
@@ -51,16 +52,25 @@ fn words_of(alloc: Global, words: &[&str]) -> Result<Vec<String>, AllocError> {
     Ok(all)
 }
 
-/// A shelf with the record of these parts. Its reads give at most so many octets, and its listed calls fail.
-fn shelf_of(alloc: Global, parts: &[&[u8]], failing: &[u32], most: u32) -> Result<MemShelf, Memory>
-    requires { 1 ≤ most }
-{
-    let name = Items::from_slice(alloc, b"record".as_slice())?;
+/// A file of these parts.
+fn file_of(
+    alloc: Global,
+    name: &str,
+    parts: &[&[u8]],
+) -> Result<(Octets, Octets), Memory> {
     let mut octets = Vec::new(alloc);
     for part in parts {
         octets.extend_from_slice(part)?;
     }
-    let file = (name, Items::from_vec(octets));
+    let name = Items::from_slice(alloc, name.as_bytes())?;
+    Ok((name, Items::from_vec(octets)))
+}
+
+/// A shelf with the record of these parts. Its reads give at most so many octets, and its listed calls fail.
+fn shelf_of(alloc: Global, parts: &[&[u8]], failing: &[u32], most: u32) -> Result<MemShelf, Memory>
+    requires { 1 ≤ most }
+{
+    let file = file_of(alloc, "record", parts)?;
     let files = Items::from_vec(Vec::from_array(alloc, [file])?);
     Ok(MemShelf::new(files, Items::from_slice(alloc, failing)?, most))
 }
@@ -81,6 +91,20 @@ fn replayed(
     Ok((status, sink))
 }
 
+/// Both are the same: their numbers and their texts are.
+fn assert_status(
+    rt: &impl Abort,
+    alloc: Global,
+    found: &ReplayStatus,
+    expected: &ReplayStatus,
+) -> Result<(), Memory> {
+    assert_eq!(rt; found.number(), expected.number());
+    let text = found.fault_text(alloc)?;
+    let wanted = expected.fault_text(alloc)?;
+    assert!(rt; text.as_slice() == wanted.as_slice());
+    Ok(())
+}
+
 /// A record of these parts gives the status and the text.
 fn check(
     rt: &impl Abort,
@@ -92,7 +116,7 @@ fn check(
     let shelf = shelf_of(alloc, parts, &[], 4096)?;
     let sink = sink_of(alloc, &[], 1000)?;
     let (found, sink) = replayed(alloc, shelf, sink)?;
-    assert_eq!(rt; found, status);
+    assert_status(rt, alloc, &found, &status)?;
     assert!(rt; sink.taken() == text.as_bytes(), "not {text}");
     Ok(())
 }
@@ -147,6 +171,16 @@ fn statuses_and_their_texts(rt: HostRuntime) -> Result<(), Fail> {
     let table = [
         (ReplayStatus::Done, 0, ""),
         (ReplayStatus::Usage, 2, "usage"),
+        (
+            ReplayStatus::Tailoring(TailoringFault::NotToml),
+            3,
+            "tailoring: not toml",
+        ),
+        (
+            ReplayStatus::Tailoring(TailoringFault::TooLong),
+            3,
+            "tailoring: too long",
+        ),
         (format(RecordFault::BadMagic), 4, "record: bad magic"),
         (
             format(RecordFault::BadKind(88, 8)),
@@ -176,10 +210,15 @@ fn statuses_and_their_texts(rt: HostRuntime) -> Result<(), Fail> {
 #[test]
 fn words_that_name_no_record(rt: HostRuntime) -> Result<(), Fail> {
     let alloc = rt.alloc();
-    let table: [(&[&str], ReplayStatus); 5] = [
+    let table: [(&[&str], ReplayStatus); 10] = [
         (&[], ReplayStatus::Usage),
         (&["replay", "builtin"], ReplayStatus::Usage),
-        (&["replay", "other", "record"], ReplayStatus::Usage),
+        (&["check"], ReplayStatus::Usage),
+        (&["check", "builtin", "record"], ReplayStatus::Usage),
+        (&["trim"], ReplayStatus::Usage),
+        (&["replay", "other", "record"], ReplayStatus::ReadFault),
+        (&["check", "other"], ReplayStatus::ReadFault),
+        (&["trim", "other"], ReplayStatus::ReadFault),
         (
             &["replay", "builtin", "record", "record"],
             ReplayStatus::Usage,
@@ -191,7 +230,7 @@ fn words_that_name_no_record(rt: HostRuntime) -> Result<(), Fail> {
         let mut shelf = shelf_of(alloc, &[KNOWN, REPORT], &[], 4096)?;
         let mut sink = sink_of(alloc, &[], 1000)?;
         let status = replay_main(alloc, &words, &mut shelf, &mut sink);
-        assert_eq!(rt; status, expected);
+        assert_status(&rt, alloc, &status, &expected)?;
         assert!(rt; sink.taken().is_empty());
     }
     Ok(())
@@ -203,7 +242,7 @@ fn reads_of_any_size(rt: HostRuntime) -> Result<(), Fail> {
         let shelf = shelf_of(rt.alloc(), &[KNOWN, LINE, REPORT], &[], most)?;
         let sink = sink_of(rt.alloc(), &[], 1000)?;
         let (status, sink) = replayed(rt.alloc(), shelf, sink)?;
-        assert_eq!(rt; status, ReplayStatus::Done);
+        assert_status(&rt, rt.alloc(), &status, &ReplayStatus::Done)?;
         assert!(rt; sink.taken() == REPORT_TEXT.as_bytes(), "at {most}");
     }
     Ok(())
@@ -216,7 +255,7 @@ fn reads_that_fail(rt: HostRuntime) -> Result<(), Fail> {
         let shelf = shelf_of(rt.alloc(), &[KNOWN, REPORT], &[call], 7)?;
         let sink = sink_of(rt.alloc(), &[], 1000)?;
         let (status, sink) = replayed(rt.alloc(), shelf, sink)?;
-        assert_eq!(rt; status, ReplayStatus::ReadFault, "at {call}");
+        assert_status(&rt, rt.alloc(), &status, &ReplayStatus::ReadFault)?;
         assert!(rt; sink.taken().is_empty());
     }
     Ok(())
@@ -238,11 +277,123 @@ fn writes_that_fail(rt: HostRuntime) -> Result<(), Fail> {
         let shelf = shelf_of(rt.alloc(), &[KNOWN, REPORT], &[], 4096)?;
         let sink = sink_of(rt.alloc(), &[call], room)?;
         let (status, sink) = replayed(rt.alloc(), shelf, sink)?;
-        assert_eq!(rt; status, ReplayStatus::WriteFault);
+        assert_status(&rt, rt.alloc(), &status, &ReplayStatus::WriteFault)?;
         assert!(rt;
             sink.taken().len() == taken && REPORT_TEXT.as_bytes().starts_with(sink.taken()),
             "at {call}"
         );
+    }
+    Ok(())
+}
+
+/// A tailoring with one parameter and one structure.
+const MINE: &[u8] = b"version = 1\napid = 100\nground = 1\nslot = 4096\n[[parameter]]\nid = 7\n\
+    kind = \"unsigned\"\noctets = 2\ninitial = 100\n[[structure]]\nkind = \"housekeeping\"\nid = 1\n\
+    interval = 1\nenabled = true\nsimple = [7]\n";
+
+/// A report of its structure, with the tag 4097.
+const MINE_REPORT: &[u8] = &[
+    b'G', 0x00, 0x00, 0x00, 0x16, 0x08, 0x64, 0xc0, 0x00, 0x00, 0x0f, 0x20, 0x03, 0x19, 0x00, 0x00,
+    0x00, 0x01, 0x00, 0x00, 0x00, 0x00, 0x10, 0x01, 0x01, 0x00, 0x64,
+];
+
+/// How a run with these words ends on a shelf with the file `mine`, and `record` and `other` of these parts.
+fn run_with_files(
+    alloc: Global,
+    words: &[&str],
+    record: &[&[u8]],
+    other: &[&[u8]],
+) -> Result<(ReplayStatus, MemSink), Memory> {
+    let files = [
+        file_of(alloc, "mine", &[MINE])?,
+        file_of(alloc, "record", record)?,
+        file_of(alloc, "other", other)?,
+    ];
+    let files = Items::from_vec(Vec::from_array(alloc, files)?);
+    let mut shelf = MemShelf::new(files, Items::from_slice(alloc, &[])?, 4096);
+    let mut sink = sink_of(alloc, &[], 1000)?;
+    let words = words_of(alloc, words)?;
+    let status = replay_main(alloc, &words, &mut shelf, &mut sink);
+    Ok((status, sink))
+}
+
+#[test]
+fn tailorings_from_files(rt: HostRuntime) -> Result<(), Fail> {
+    let alloc = rt.alloc();
+    let text = "report hk 1 tag 4097 decided interval 1\nvalue 7 slot 0 = 100\n";
+    let not_toml = || ReplayStatus::Tailoring(TailoringFault::NotToml);
+    let table: [(&[&str], ReplayStatus, &str); 7] = [
+        (
+            &["check", "builtin"],
+            ReplayStatus::Done,
+            "tailoring ok parameters 14 structures 4\n",
+        ),
+        (
+            &["check", "mine"],
+            ReplayStatus::Done,
+            "tailoring ok parameters 1 structures 1\n",
+        ),
+        (&["replay", "mine", "record"], ReplayStatus::Done, text),
+        (&["check", "other"], not_toml(), ""),
+        (&["replay", "other", "record"], not_toml(), ""),
+        (&["replay", "other", "absent"], not_toml(), ""),
+        (&["replay", "mine", "absent"], ReplayStatus::ReadFault, ""),
+    ];
+    for (words, status, text) in table {
+        let (found, sink) = run_with_files(alloc, words, &[KNOWN, MINE_REPORT], &[b"no key"])?;
+        assert_status(&rt, alloc, &found, &status)?;
+        assert!(rt; sink.taken() == text.as_bytes(), "not {text}");
+    }
+    Ok(())
+}
+
+#[test]
+fn tailorings_that_are_too_long(rt: HostRuntime) -> Result<(), Fail> {
+    let alloc = rt.alloc();
+    let long = vec![in alloc; b'#'; 1_048_577]?;
+    let table: [(&[u8], ReplayStatus); 2] = [
+        (
+            &long.as_slice()[1..],
+            ReplayStatus::Tailoring(TailoringFault::MissingKey(Octets::from_slice(
+                alloc, b"version",
+            )?)),
+        ),
+        (
+            long.as_slice(),
+            ReplayStatus::Tailoring(TailoringFault::TooLong),
+        ),
+    ];
+    for (file, status) in table {
+        let (found, _) = run_with_files(alloc, &["check", "other"], &[], &[file])?;
+        assert_status(&rt, alloc, &found, &status)?;
+    }
+    Ok(())
+}
+
+#[test]
+fn records_that_are_trimmed(rt: HostRuntime) -> Result<(), Fail> {
+    let alloc = rt.alloc();
+    let table: [(&[&[u8]], &[&[u8]]); 4] = [
+        (&[KNOWN, REPORT, LINE], &[KNOWN, REPORT, LINE]),
+        (&[KNOWN, REPORT, &LATER[..26]], &[KNOWN, REPORT]),
+        (&[KNOWN, LINE, &REPORT[..1]], &[KNOWN, LINE]),
+        (&[b"HKREC2U\n", REQUEST, &REPORT[..5]], &[b"HKREC2U\n", REQUEST]),
+    ];
+    for (parts, kept) in table {
+        let (status, sink) = run_with_files(alloc, &["trim", "record"], parts, &[])?;
+        assert_status(&rt, alloc, &status, &ReplayStatus::Done)?;
+        let (_, kept) = file_of(alloc, "kept", kept)?;
+        assert!(rt; sink.taken() == kept.as_slice());
+    }
+    let faults: [(&[&[u8]], RecordFault); 3] = [
+        (&[b"HKR"], RecordFault::BadMagic),
+        (&[KNOWN, LINE, b"X"], RecordFault::BadKind(88, 17)),
+        (&[KNOWN, b"G\xff\xff\xff\xff"], RecordFault::TooLong(8)),
+    ];
+    for (parts, fault) in faults {
+        let (status, sink) = run_with_files(alloc, &["trim", "record"], parts, &[])?;
+        assert_status(&rt, alloc, &status, &format(fault))?;
+        assert!(rt; sink.taken().is_empty());
     }
     Ok(())
 }

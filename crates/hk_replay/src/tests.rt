@@ -40,8 +40,10 @@ const REQUEST: &[u8] = &[
 /// A line of the journal.
 const LINE: &[u8] = b"J\x00\x00\x00\x04noon";
 
-/// The words of the command on the record of `shelf_of`.
-const REPLAY: [&str; 3] = ["replay", "builtin", "record"];
+/// The words of the commands on the record of `shelf_of`.
+const REPLAY: &[&str] = &["replay", "builtin", "record"];
+
+const TRIM: &[&str] = &["trim", "record"];
 
 fn words_of(alloc: Global, words: &[&str]) -> Result<Vec<String>, AllocError> {
     let mut all = Vec::new(alloc);
@@ -70,30 +72,32 @@ fn sink_of(alloc: Global, failing: &[u32], room: u32) -> Result<MemSink, Memory>
     MemSink::new(alloc, Items::from_slice(alloc, failing)?, 10, room)
 }
 
-/// How the command ends on that shelf, and what it writes.
-fn replayed(
+/// How a command ends on that shelf, and what it writes.
+fn run_on(
     alloc: Global,
+    words: &[&str],
     mut shelf: MemShelf,
     mut sink: MemSink,
 ) -> Result<(ReplayStatus, MemSink), Memory> {
-    let words = words_of(alloc, &REPLAY)?;
+    let words = words_of(alloc, words)?;
     let status = replay_main(alloc, &words, &mut shelf, &mut sink);
     Ok((status, sink))
 }
 
-/// A record of these parts gives the status and the text.
+/// A command on a record of these parts gives the status and the output.
 fn check(
     rt: &impl Abort,
     alloc: Global,
+    words: &[&str],
     parts: &[&[u8]],
     status: ReplayStatus,
-    text: &str,
+    output: &[u8],
 ) -> Result<(), Memory> {
     let shelf = shelf_of(alloc, parts, &[], 4096)?;
     let sink = sink_of(alloc, &[], 1000)?;
-    let (found, sink) = replayed(alloc, shelf, sink)?;
+    let (found, sink) = run_on(alloc, words, shelf, sink)?;
     assert_eq!(rt; found, status);
-    assert!(rt; sink.taken() == text.as_bytes(), "not {text}");
+    assert_eq!(rt; sink.taken(), output);
     Ok(())
 }
 
@@ -111,7 +115,14 @@ fn records_with_lines(rt: HostRuntime) -> Result<(), Fail> {
         (&[KNOWN, ARRAY], array),
     ];
     for (parts, text) in table {
-        check(&rt, rt.alloc(), parts, ReplayStatus::Done, text)?;
+        check(
+            &rt,
+            rt.alloc(),
+            REPLAY,
+            parts,
+            ReplayStatus::Done,
+            text.as_bytes(),
+        )?;
     }
     Ok(())
 }
@@ -137,7 +148,24 @@ fn records_without_lines(rt: HostRuntime) -> Result<(), Fail> {
         (&[KNOWN, LATER, REPORT], ReplayStatus::NotBuilt),
     ];
     for (parts, status) in table {
-        check(&rt, rt.alloc(), parts, status, "")?;
+        check(&rt, rt.alloc(), REPLAY, parts, status, b"")?;
+    }
+    Ok(())
+}
+
+#[test]
+fn records_that_are_trimmed(rt: HostRuntime) -> Result<(), Fail> {
+    let table: [(&[&[u8]], ReplayStatus, usize); 4] = [
+        (&[KNOWN, &REPORT[..26]], ReplayStatus::Done, 8),
+        (&[KNOWN, REPORT], ReplayStatus::Done, 35),
+        (&[KNOWN, b"X"], format(RecordFault::BadKind(88, 8)), 0),
+        (&[b"HKR"], format(RecordFault::BadMagic), 0),
+    ];
+    let mut whole = Vec::from_slice(rt.alloc(), KNOWN)?;
+    whole.extend_from_slice(REPORT)?;
+    for (parts, status, kept) in table {
+        let output = whole.get(..kept).ok_or("too long")?;
+        check(&rt, rt.alloc(), TRIM, parts, status, output)?;
     }
     Ok(())
 }
@@ -202,7 +230,7 @@ fn reads_of_any_size(rt: HostRuntime) -> Result<(), Fail> {
     for most in 1..=64u32 {
         let shelf = shelf_of(rt.alloc(), &[KNOWN, LINE, REPORT], &[], most)?;
         let sink = sink_of(rt.alloc(), &[], 1000)?;
-        let (status, sink) = replayed(rt.alloc(), shelf, sink)?;
+        let (status, sink) = run_on(rt.alloc(), REPLAY, shelf, sink)?;
         assert_eq!(rt; status, ReplayStatus::Done);
         assert!(rt; sink.taken() == REPORT_TEXT.as_bytes(), "at {most}");
     }
@@ -215,7 +243,7 @@ fn reads_that_fail(rt: HostRuntime) -> Result<(), Fail> {
     for call in 1..=7u32 {
         let shelf = shelf_of(rt.alloc(), &[KNOWN, REPORT], &[call], 7)?;
         let sink = sink_of(rt.alloc(), &[], 1000)?;
-        let (status, sink) = replayed(rt.alloc(), shelf, sink)?;
+        let (status, sink) = run_on(rt.alloc(), REPLAY, shelf, sink)?;
         assert_eq!(rt; status, ReplayStatus::ReadFault, "at {call}");
         assert!(rt; sink.taken().is_empty());
     }
@@ -237,7 +265,7 @@ fn writes_that_fail(rt: HostRuntime) -> Result<(), Fail> {
     for (call, room, taken) in table {
         let shelf = shelf_of(rt.alloc(), &[KNOWN, REPORT], &[], 4096)?;
         let sink = sink_of(rt.alloc(), &[call], room)?;
-        let (status, sink) = replayed(rt.alloc(), shelf, sink)?;
+        let (status, sink) = run_on(rt.alloc(), REPLAY, shelf, sink)?;
         assert_eq!(rt; status, ReplayStatus::WriteFault);
         assert!(rt;
             sink.taken().len() == taken && REPORT_TEXT.as_bytes().starts_with(sink.taken()),

@@ -1,12 +1,11 @@
 //! Calls of the crates below that want memory, each once.
-ghost use Rattle.std.specs.Prelude.{◌≤◌};
-
 use hk_base::{
-    Definition, Failed, Form, Items, Key, Kind, Memory, Param, Sensor, Structure, SuperList,
-    TableSensor, builtin, put_int, put_uint,
+    Boot, Definition, Failed, Form, Items, Memory, Param, Sensor, Structure, SuperList,
+    TableSensor, Tailoring, builtin, put_int, put_uint,
 };
 use hk_world::{Act, Journal, Moment};
 use std::alloc::Global;
+use std::process::Abort;
 use std::test::Fail;
 
 #[test]
@@ -54,25 +53,52 @@ fn is_same_definition(a: &Definition, b: &Definition) -> bool {
             .all(|(one, other)| is_same_array(one, other))
 }
 
-#[test]
-fn copies_are_equal(rt: HostRuntime) -> Result<(), Fail> {
-    let alloc = rt.alloc();
-    let tailoring = builtin(alloc)?;
+fn is_same_structure(a: &Structure, b: &Structure) -> bool {
+    a.enabled == b.enabled && is_same_definition(&a.def, &b.def)
+}
+
+fn is_same_boot(a: &Boot, b: &Boot) -> bool {
+    a.key == b.key && is_same_structure(&a.structure, &b.structure)
+}
+
+fn are_same_boots(a: &[Boot], b: &[Boot]) -> bool {
+    a.len() == b.len() && a.iter().zip(b).all(|(one, other)| is_same_boot(one, other))
+}
+
+fn is_same_param_at(a: &Tailoring, b: &Tailoring, number: u32) -> bool {
+    match (a.param_at(number), b.param_at(number)) {
+        (Some(one), Some(other)) => is_same_param(one, other),
+        (one, other) => one.is_none() && other.is_none(),
+    }
+}
+
+fn check_copies(rt: &impl Abort, alloc: Global, structure: &Structure) -> Result<(), Memory> {
+    let copy = structure.copy(alloc)?;
+    assert!(rt; is_same_structure(&copy, structure));
+    let copy = structure.def.copy(alloc)?;
+    assert!(rt; is_same_definition(&copy, &structure.def));
+    Ok(())
+}
+
+fn check_copy(rt: &impl Abort, alloc: Global, tailoring: &Tailoring) -> Result<(), Memory> {
     let copy = tailoring.copy(alloc)?;
     assert_eq!(rt; copy.widths(), tailoring.widths());
-    for number in 0..14 {
-        let one = copy.param_at(number).ok_or("no parameter")?;
-        let other = tailoring.param_at(number).ok_or("no parameter")?;
-        assert!(rt; is_same_param(one, other), "parameter {number}");
+    assert!(rt; are_same_boots(copy.boots(), tailoring.boots()));
+    for number in 0..=14 {
+        assert!(rt;
+            is_same_param_at(&copy, tailoring, number),
+            "parameter {number}"
+        );
     }
-    assert_eq!(rt; copy.boots().len(), 4);
-    for (one, other) in copy.boots().iter().zip(tailoring.boots()) {
-        let again = other.structure.copy(alloc)?;
-        assert_eq!(rt; one.key, other.key);
-        assert_eq!(rt; one.structure.enabled, other.structure.enabled);
-        assert_eq!(rt; again.enabled, other.structure.enabled);
-        assert!(rt; is_same_definition(&one.structure.def, &other.structure.def));
-        assert!(rt; is_same_definition(&again.def, &other.structure.def));
+    Ok(())
+}
+
+#[test]
+fn copies_are_equal(rt: HostRuntime) -> Result<(), Fail> {
+    let tailoring = builtin(rt.alloc())?;
+    check_copy(&rt, rt.alloc(), &tailoring)?;
+    for boot in tailoring.boots() {
+        check_copies(&rt, rt.alloc(), &boot.structure)?;
     }
     Ok(())
 }

@@ -1,9 +1,7 @@
 -- What a tailoring file means, and what is answered of it.
-use Rattle.std.proofs.Common.{◌≡◌, ◌≤◌, ℕ, true, false, List, [], ◌∷◌, ◌++◌, length, drop, take, Option, Some, None, Result, Ok, Err, refl, sym, ap, subst, ◌∙◌, append_assoc}
+use Rattle.std.proofs.Common.{◌≡◌, ℕ, true, false, List, [], length, Option, Some, None, Result, Ok, Err, refl, sym, ap, ◌∙◌}
 use Rattle.std.specs.Prelude.{Bool, nat_lt, IfSome, IsSome, if◌then◌else◌}
-use Rattle.std.proofs.lemmas.List.{take-append-drop}
 use Rattle.hk_base.specs.TailoringParts.{TailoringParts}
-use Rattle.hk_base.specs.Outside.{Reads}
 use Rattle.hk_base.specs.declared.types.Widths.{Widths}
 use Rattle.hk_tailoring.specs.Keys.{Section}
 use Rattle.hk_tailoring.specs.Widths.{AreWidths}

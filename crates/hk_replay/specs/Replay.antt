@@ -1,5 +1,5 @@
 -- What the program promises of one run.
-use Rattle.std.specs.Prelude.{◌≡◌, ◌≤◌, ⊤, ℕ, List, ◌++◌, Option, Some, None, Result, Ok, Err, IfSome, IfErr, length}
+use Rattle.std.specs.Prelude.{◌≡◌, ◌≤◌, ⊤, ℕ, List, ◌++◌, Option, Some, Result, Ok, Err, IfSome, IfErr, length}
 use Rattle.session_record.specs.declared.header.Header.{Header}
 use Rattle.hk_replay.specs.Transcripts.{Lines, Outcome, written, stopped, ended}
 use Rattle.session_record.specs.Writing.{HasWritten}

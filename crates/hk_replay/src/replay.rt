@@ -164,11 +164,7 @@ fn checked_text<F: Shelf>(
 }
 
 /// The header and the whole entries of the record of this name, or how the run ends without them.
-fn trimmed_text<F: Shelf>(
-    alloc: Global,
-    name: &str,
-    shelf: &mut F,
-) -> Result<Vec<u8>, ReplayStatus>
+fn trimmed_text<F: Shelf>(alloc: Global, name: &str, shelf: &mut F) -> Result<Vec<u8>, ReplayStatus>
     ensures read_fault { IsErrOf result ReplayStatus.ReadFault → HasRisen (F.faults shelf.old) (F.faults shelf.new) }
     ensures outcome { IfSome (octets_of (F.files shelf.old) name.now) (λ octets. ReadsTo (λ text. text.items) result (trim_outcome octets)) }
     ensures sound { F.is_sound shelf.old → IsSome (octets_of (F.files shelf.old) name.now) → F.faults shelf.new ≡ F.faults shelf.old }

@@ -53,11 +53,7 @@ fn words_of(alloc: Global, words: &[&str]) -> Result<Vec<String>, AllocError> {
 }
 
 /// A file of these parts.
-fn file_of(
-    alloc: Global,
-    name: &str,
-    parts: &[&[u8]],
-) -> Result<(Octets, Octets), Memory> {
+fn file_of(alloc: Global, name: &str, parts: &[&[u8]]) -> Result<(Octets, Octets), Memory> {
     let mut octets = Vec::new(alloc);
     for part in parts {
         octets.extend_from_slice(part)?;
@@ -146,22 +142,24 @@ fn format(fault: RecordFault) -> ReplayStatus {
 
 #[test]
 fn records_without_lines(rt: HostRuntime) -> Result<(), Fail> {
-    let table: [(&[&[u8]], ReplayStatus); 9] = [
-        (&[KNOWN, &REPORT[..26]], format(RecordFault::Cut(8))),
-        (&[KNOWN, b"X"], format(RecordFault::BadKind(88, 8))),
-        (
-            &[KNOWN, b"G\xff\xff\xff\xff"],
-            format(RecordFault::TooLong(8)),
-        ),
-        (&[b"HKR"], format(RecordFault::BadMagic)),
-        (&[KNOWN, REQUEST], ReplayStatus::NotBuilt),
-        (&[b"HKREC1U\n", REPORT], ReplayStatus::NotBuilt),
-        (&[b"HKREC2K\n", REPORT], ReplayStatus::NotBuilt),
-        (&[KNOWN, REPORT, REPORT], ReplayStatus::NotBuilt),
-        (&[KNOWN, LATER, REPORT], ReplayStatus::NotBuilt),
+    let faults: [(&[&[u8]], RecordFault); 4] = [
+        (&[KNOWN, &REPORT[..26]], RecordFault::Cut(8)),
+        (&[KNOWN, b"X"], RecordFault::BadKind(88, 8)),
+        (&[KNOWN, b"G\xff\xff\xff\xff"], RecordFault::TooLong(8)),
+        (&[b"HKR"], RecordFault::BadMagic),
     ];
-    for (parts, status) in table {
-        check(&rt, rt.alloc(), parts, status, "")?;
+    for (parts, fault) in faults {
+        check(&rt, rt.alloc(), parts, format(fault), "")?;
+    }
+    let forms: [&[&[u8]]; 5] = [
+        &[KNOWN, REQUEST],
+        &[b"HKREC1U\n", REPORT],
+        &[b"HKREC2K\n", REPORT],
+        &[KNOWN, REPORT, REPORT],
+        &[KNOWN, LATER, REPORT],
+    ];
+    for parts in forms {
+        check(&rt, rt.alloc(), parts, ReplayStatus::NotBuilt, "")?;
     }
     Ok(())
 }
@@ -377,7 +375,10 @@ fn records_that_are_trimmed(rt: HostRuntime) -> Result<(), Fail> {
         (&[KNOWN, REPORT, LINE], &[KNOWN, REPORT, LINE]),
         (&[KNOWN, REPORT, &LATER[..26]], &[KNOWN, REPORT]),
         (&[KNOWN, LINE, &REPORT[..1]], &[KNOWN, LINE]),
-        (&[b"HKREC2U\n", REQUEST, &REPORT[..5]], &[b"HKREC2U\n", REQUEST]),
+        (
+            &[b"HKREC2U\n", REQUEST, &REPORT[..5]],
+            &[b"HKREC2U\n", REQUEST],
+        ),
     ];
     for (parts, kept) in table {
         let (status, sink) = run_with_files(alloc, &["trim", "record"], parts, &[])?;

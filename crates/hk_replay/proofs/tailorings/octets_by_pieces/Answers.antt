@@ -1,6 +1,6 @@
 use Rattle.std.proofs.Common.{arith, ◌∙◌}
 use Rattle.std.proofs.lemmas.Result.{err_from_is_err_and}
-use Rattle.hk_replay.proofs.FileLemmas.{ahead_start, still_told, ahead_more, whole_at_end, too_long, ended_early}
+use Rattle.hk_replay.proofs.FileLemmas.{still_told, whole_at_end, too_long, ended_early}
 use Rattle.hk_replay.proofs.tailorings.octets_by_pieces.Goals as goal
 
 pub returns-in_err-append_piece-clause-whole : goal.returns-in_err-append_piece-clause-whole

@@ -2,9 +2,9 @@ ghost use Rattle.std.specs.Prelude.{◌≤◌};
 
 use crate::replay::replay_main;
 use crate::status::{RecordProblem, ReplayStatus};
-use hk_base::{Items, MemShelf, MemSink, Memory, Octets};
+use hk_base::{Items, MemShelf, MemSink, Memory, Octets, Shelf};
 use hk_tailoring::TailoringFault;
-use session_record::RecordFault;
+use session_record::{Entry, RecordFault, RecordReader};
 use std::alloc::{AllocError, Global};
 use std::process::Abort;
 use std::test::Fail;
@@ -255,6 +255,43 @@ fn reads_that_fail(rt: HostRuntime) -> Result<(), Fail> {
         let (status, sink) = replayed(rt.alloc(), shelf, sink)?;
         assert_status(&rt, rt.alloc(), &status, &ReplayStatus::ReadFault)?;
         assert!(rt; sink.taken().is_empty());
+    }
+    Ok(())
+}
+
+/// The next entry. A read that failed is asked for again.
+fn next_entry(
+    reader: &mut RecordReader,
+    shelf: &mut MemShelf,
+) -> Result<Option<(u64, Entry)>, RecordFault> {
+    match reader.next(shelf) {
+        Err(RecordFault::ReadFault) => reader.next(shelf),
+        answer => answer,
+    }
+}
+
+/// An entry of those octets came, which begins at that offset.
+fn is_entry(answer: &Result<Option<(u64, Entry)>, RecordFault>, offset: u64, held: &[u8]) -> bool {
+    match answer {
+        Ok(Some((at, Entry::Line(text)))) => *at == offset && text.as_slice() == held,
+        Ok(Some((at, Entry::Got(packet)))) => *at == offset && packet.as_slice() == held,
+        _ => false,
+    }
+}
+
+/// Each call of the shelf fails in turn, at each size of the reader's pieces.
+#[test]
+fn entries_in_any_pieces(rt: HostRuntime) -> Result<(), Fail> {
+    let alloc = rt.alloc();
+    for most in 1..=64u32 {
+        for failing in 2..=46u32 {
+            let mut shelf = shelf_of(alloc, &[KNOWN, LINE, REPORT], &[failing], 4096)?;
+            assert!(rt; shelf.select("record").is_ok());
+            let mut reader = RecordReader::new(alloc, most)?;
+            assert!(rt; is_entry(&next_entry(&mut reader, &mut shelf), 8, &LINE[5..]));
+            assert!(rt; is_entry(&next_entry(&mut reader, &mut shelf), 17, &REPORT[5..]));
+            assert!(rt; matches!(next_entry(&mut reader, &mut shelf), Ok(None)));
+        }
     }
     Ok(())
 }

@@ -1,9 +1,6 @@
 mod Rows
 pub mod Membership
-pub mod ReadLemmas
 pub mod FieldLemmas
-pub mod ReadingLemmas
-pub mod ValueLemmas
 pub mod Numbers
 pub mod Finds
 pub mod Sizes
@@ -13,9 +10,3 @@ pub mod ListedLemmas
 pub mod FileLemmas
 pub mod RoomLemmas
 pub mod RowLemmas
-pub mod ListReading
-pub mod Writing
-pub mod TakingLemmas
-pub mod FitLemmas
-pub mod NamedLemmas
-pub mod BodyLemmas

@@ -95,6 +95,10 @@ pub pow_of_octets : (n : ℕ) → 256 ^ n ≡ 2 ^ (8 * n)
 pow_of_octets zero = refl
 pow_of_octets (suc n) = pow-suc 256 n ∙ (ap (λ x. x * 256) (pow_of_octets n) ∙ (sym (pow-add 2 (8 * n) 8) ∙ ap (λ x. 2 ^ x) (omega arith)))
 
+-- eight bits an octet
+pub bits_of_octets : (n : ℕ) → 2 ^ (8 * n) ≡ 256 ^ n
+bits_of_octets n = sym (pow_of_octets n)
+
 pub signed_of-below : (bits number : ℕ) → 2 * number < 2 ^ bits → signed_of bits number ≡ pos number
 signed_of-below bits number below = let low : nat_lt (2 * number) (2 ^ bits) ≡ true = grind (arith, nat_tests) in rw low refl
 

@@ -5,9 +5,6 @@ pub mod Definitions
 pub mod Payload
 pub mod Builtin
 pub mod Fit
-pub mod Reading
-pub mod Spelling
 pub mod Outside
 pub mod Memory
 pub mod Keyed
-pub mod Outcomes

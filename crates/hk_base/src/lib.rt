@@ -2,7 +2,6 @@
 //! and the traits of the outside.
 #![tactic(auto)]
 
-pub mod body;
 mod copies;
 mod fields;
 mod list;
@@ -28,6 +27,6 @@ pub use standard::builtin;
 pub use table_sensor::TableSensor;
 pub use tailoring::{Tailoring, greatest_tag, slot_of};
 pub use types::{
-    BUILTIN_WIDTHS, BodyFault, Boot, Definition, Form, Key, Kind, Memory, Param, PayloadFault,
-    Place, RequestId, Short, Structure, SuperList, Value, Widths,
+    BUILTIN_WIDTHS, Boot, Definition, Form, Key, Kind, Memory, Param, PayloadFault, Place,
+    RequestId, Short, Structure, SuperList, Value, Widths,
 };

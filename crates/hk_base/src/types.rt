@@ -110,25 +110,6 @@ pub enum PayloadFault {
     Memory,
 }
 
-/// The first fault of a body, numbered from 1 in this order.
-#[derive(Clone, Copy, Debug, PartialEq, Eq, Drop)]
-pub enum BodyFault {
-    Short,
-    Trailing(u32),
-    ZeroCount,
-    RepeatedKey(u32),
-    UnknownParam(u32),
-    BadRepetition(u32, u32),
-    ZeroInterval,
-    TooMany(u32),
-    NotSettable(u32),
-    LongInterval(u32),
-    WrongValue(u32),
-    NotNumeric(u32),
-    Status(u8),
-    Memory,
-}
-
 /// There was no memory.
 #[derive(Clone, Copy, Debug, PartialEq, Eq, Drop)]
 pub struct Memory;

@@ -3,7 +3,7 @@ use Rattle.std.specs.Prelude.{◌≡◌, ℕ, ◌-◌, ◌≤◌, List, [], ◌+
 use Rattle.std.specs.List.{AllZip}
 use Rattle.hk_base.specs.Fit.{slot_of}
 use Rattle.hk_base.specs.Payload.{places, IsPayload}
-use Rattle.hk_base.specs.Spelling.{structure_octets}
+use Rattle.body_fields.specs.Spelling.{structure_octets}
 use Rattle.hk_base.specs.declared.types.Key.{Key}
 use Rattle.hk_base.specs.declared.types.Kind.TheVariants.{Housekeeping}
 use Rattle.hk_base.specs.declared.types.Place.{Place}

@@ -14,7 +14,7 @@ use Rattle.sample_slots.specs.Reading.{is_set}
 use Rattle.hk_base.proofs.FieldLemmas.{number-digits, pow_pos}
 use Rattle.hk_base.proofs.Membership.{AllByRecursion-append, AllByRecursion-parts}
 use Rattle.hk_base.proofs.Numbers.{IsBytes, IsBytes-take, number_is}
-use Rattle.hk_base.proofs.ValueLemmas.{bits_of_octets}
+use Rattle.hk_base.proofs.Numbers.{bits_of_octets}
 
 regroup : (d p q a b : ℕ) → d * (p * q) + (a * q + b) ≡ (d * p + a) * q + b
 regroup d p q a b = omega arith

@@ -1,7 +1,7 @@
 -- What is of the grammar has room in its fields.
 use Rattle.std.proofs.Common.{ℕ, ◌≤◌, List, [], ◌∷◌, length}
 use Rattle.hk_base.specs.TailoringParts.{TailoringParts}
-use Rattle.hk_base.specs.Spelling.{AllFit}
+use Rattle.body_fields.specs.Spelling.{AllFit}
 use Rattle.st01_reports.specs.Spelling.{AreRising, IsVerification, VerificationFits}
 use Rattle.st01_reports.specs.declared.verification.Verification.{Verification}
 use Rattle.st01_reports.specs.declared.verification.Verification.TheVariants.{Accepted, Refused, Started, NotStarted, Step, StepFailed, Completed, Incomplete, NotRouted}

@@ -7,11 +7,11 @@ use Rattle.std.proofs.lemmas.Option.{none-some}
 use Rattle.std.proofs.Common.{sym}
 use Rattle.hk_base.specs.TailoringParts.{TailoringParts}
 use Rattle.hk_base.specs.Fields.{octets_of}
-use Rattle.hk_base.specs.Reading.{then_read, uint, counted_list}
-use Rattle.hk_base.specs.Spelling.{AreOctets, AllAmong, IsCount, counted_octets}
+use Rattle.body_fields.specs.Reading.{then_read, uint, counted_list}
+use Rattle.body_fields.specs.Spelling.{AreOctets, AllAmong, IsCount, counted_octets}
 use Rattle.hk_base.specs.declared.types.RequestId.{RequestId}
-use Rattle.hk_base.specs.declared.types.BodyFault.TheVariants.{ZeroCount, RepeatedKey}
-use Rattle.hk_base.proofs.TakingLemmas.{Took, IsSpelled, took-then, took-map, took-check, took-weaken, took-uint, took-counted, body-took}
+use Rattle.body_fields.specs.declared.fault.BodyFault.TheVariants.{ZeroCount, RepeatedKey}
+use Rattle.body_fields.proofs.TakingLemmas.{Took, IsSpelled, took-then, took-map, took-check, took-weaken, took-uint, took-counted, body-took}
 use Rattle.st01_reports.specs.Bodies.{request_field, cause_field, step_fault, step_field, on_request, with_cause, step_report, step_failure, incompletion, report_table, report_body}
 use Rattle.st01_reports.specs.Spelling.{id_octets, cause_octets, step_octets, IsRequestId, IsCause, AreRising, IsSpelledReport}
 use Rattle.st01_reports.specs.declared.verification.Cause.{Cause}

@@ -1,7 +1,7 @@
 //! Each report has one spelling.
 ghost use Rattle.std.specs.Prelude.{◌≡◌, ◌≤◌, ℕ, List, Some, Ok};
 ghost use Rattle.hk_base.specs.TailoringParts.{TailoringParts};
-ghost use Rattle.hk_base.specs.Spelling.{AreOctets};
+ghost use Rattle.body_fields.specs.Spelling.{AreOctets};
 ghost use Rattle.st01_reports.specs.declared.verification.Verification.{Verification};
 ghost use Rattle.st01_reports.specs.Bodies.{report_body};
 ghost use Rattle.st01_reports.specs.Spelling as spelling;

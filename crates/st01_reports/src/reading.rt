@@ -1,15 +1,15 @@
 ghost use Rattle.std.specs.Prelude.{◌≡◌, ◌≤◌, ◌<◌, ◌^◌, true, length, reverse, slice_get, is_some, IfOk, IfSome};
 ghost use Rattle.hk_base.specs.TailoringParts.{TailoringParts};
-ghost use Rattle.hk_base.specs.Outcomes.{Gives, Finds};
-ghost use Rattle.hk_base.specs.Reading.{reader, uint};
+ghost use Rattle.body_fields.specs.Outcomes.{Gives, Finds};
+ghost use Rattle.body_fields.specs.Reading.{reader, uint};
 ghost use Rattle.st01_reports.specs.Spelling.{IsSpelledReport};
 ghost use Rattle.st01_reports.specs.Stages.{success_report, failure_report};
 ghost use Rattle.st01_reports.specs.Bodies.{request_field, cause_field, rising_fault, step_field, on_request, with_cause, step_report, step_failure, incompletion, report_table, report_body};
 
 use crate::stage::{Failure, Success};
 use crate::verification::{Cause, Verification};
-use hk_base::body::{ReadMember, read_list, read_number, whole};
-use hk_base::{BodyFault, RequestId, Tailoring};
+use body_fields::{BodyFault, ReadMember, read_list, read_number, whole};
+use hk_base::{RequestId, Tailoring};
 use std::alloc::Global;
 
 /// The ID of a request: the first four octets of its packet.

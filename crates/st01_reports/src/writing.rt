@@ -1,13 +1,13 @@
 ghost use Rattle.std.specs.Prelude.{◌≡◌, ◌<◌, ◌≤◌, ◌^◌, ◌++◌, length, OnOk, OnErr};
-ghost use Rattle.hk_base.specs.Outcomes.{Appends};
+ghost use Rattle.body_fields.specs.Outcomes.{Appends};
 ghost use Rattle.hk_base.specs.Fields.{octets_of};
-ghost use Rattle.hk_base.specs.Spelling.{AllFit, counted_octets};
+ghost use Rattle.body_fields.specs.Spelling.{AllFit, counted_octets};
 ghost use Rattle.st01_reports.specs.Spelling.{id_octets, cause_octets, step_octets, verification_octets, VerificationFits, IsVerification};
 ghost use Rattle.st01_reports.specs.Spelling as spelling;
 
 use crate::reading::Steps;
 use crate::verification::{Cause, Verification};
-use hk_base::body::{WriteMember, or_undo, write_list};
+use body_fields::{WriteMember, or_undo, write_list};
 use hk_base::{Items, Memory, RequestId, Tailoring, put_uint};
 
 /// The subtype of a report.

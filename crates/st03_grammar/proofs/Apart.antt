@@ -7,15 +7,15 @@ use Rattle.std.proofs.lemmas.Bool.{both_ways, and_parts, eqb-true, eq-eqb}
 use Rattle.std.proofs.lemmas.Option.{none-some, same_Some}
 use Rattle.std.proofs.lemmas.Iterator.Adapters.{position_from-zero}
 use Rattle.hk_base.specs.TailoringParts.{TailoringParts}
-use Rattle.hk_base.specs.Outcomes.{Gives}
+use Rattle.body_fields.specs.Outcomes.{Gives}
 use Rattle.hk_base.specs.Parameters.{key_eq, kind_eq}
-use Rattle.hk_base.specs.Reading.{Read, whole_body, reader}
-use Rattle.hk_base.specs.declared.types.BodyFault.{BodyFault}
+use Rattle.body_fields.specs.Reading.{Read, whole_body, reader}
+use Rattle.body_fields.specs.declared.fault.BodyFault.{BodyFault}
 use Rattle.hk_base.specs.declared.types.Kind.{Kind}
 use Rattle.hk_base.specs.declared.types.Kind.TheVariants.{Housekeeping, Diagnostic}
 use Rattle.hk_base.specs.declared.types.Key.{Key}
 use Rattle.hk_base.proofs.Membership.{IsIn, AreApart}
-use Rattle.hk_base.proofs.ReadLemmas.{IsSomeSo, IsOkSo}
+use Rattle.body_fields.proofs.ReadLemmas.{IsSomeSo, IsOkSo}
 use Rattle.st03_grammar.specs.Bodies.{request_table, request_body}
 use Rattle.st03_grammar.specs.Instructions.{StructureChange, structure_changes, instruction_at, instruction_on, AreKeysApart}
 use Rattle.st03_grammar.specs.declared.bodies.Request03.{Request03}

@@ -2,11 +2,11 @@
 use Rattle.std.proofs.Common.{arith, ℕ, ◌≤◌, List, [], ◌∷◌, length, map, Bool, Option}
 use Rattle.std.specs.List.{AllByRecursion}
 use Rattle.hk_base.specs.TailoringParts.{TailoringParts}
-use Rattle.hk_base.specs.Spelling.{AllFit}
+use Rattle.body_fields.specs.Spelling.{AllFit, IsInterval}
 use Rattle.hk_base.specs.declared.types.SuperList.{SuperList}
 use Rattle.std.proofs.lemmas.List.{length-map}
 use Rattle.st03_grammar.specs.Instructions.{structure_changes}
-use Rattle.st03_grammar.specs.Spelling.{PairFits, RowFits, ArrayFits, ListsFit, RequestFits, ReportFits, IsInterval, AreArrays, AreLists, IsRequest03, IsReport03}
+use Rattle.st03_grammar.specs.Spelling.{PairFits, RowFits, ArrayFits, ListsFit, RequestFits, ReportFits, AreArrays, AreLists, IsRequest03, IsReport03}
 use Rattle.st03_grammar.specs.declared.bodies.Pair.{Pair}
 use Rattle.st03_grammar.specs.declared.bodies.PeriodicRow.{PeriodicRow}
 use Rattle.st03_grammar.specs.declared.bodies.Request03.{Request03}

@@ -3,19 +3,20 @@ use Rattle.std.proofs.Common.{◌≡◌, refl, ap, ◌∙◌, ℕ, ◌^◌, ◌<
 use Rattle.std.specs.List.{AllByRecursion}
 use Rattle.hk_base.specs.TailoringParts.{TailoringParts}
 use Rattle.hk_base.specs.Fields.{octets_of}
-use Rattle.hk_base.specs.Reading.{Read, then_read, with_check, whole_body, uint, counted_list, repeat_fault, param_fault, param_field, interval_fault, interval_field, flag_field}
-use Rattle.hk_base.specs.Spelling.{Reads, AllRead, AllStand, AllFit, counted_octets, structure_octets, param_octets, interval_octets, flag_octets}
-use Rattle.hk_base.specs.declared.types.BodyFault.{BodyFault}
+use Rattle.body_fields.specs.Reading.{Read, then_read, with_check, whole_body, uint, counted_list, repeat_fault, param_fault, param_field, interval_field, flag_field}
+use Rattle.body_fields.specs.Spelling.{Reads, AllRead, AllStand, AllFit, counted_octets, structure_octets, param_octets, interval_octets, flag_octets, IsInterval}
+use Rattle.body_fields.specs.declared.fault.BodyFault.{BodyFault}
 use Rattle.hk_base.specs.declared.types.Kind.{Kind}
 use Rattle.hk_base.specs.declared.types.Kind.TheVariants.{Housekeeping, Diagnostic}
 use Rattle.hk_base.specs.declared.types.Key.{Key}
 use Rattle.hk_base.specs.declared.types.SuperList.{SuperList}
 use Rattle.hk_base.specs.declared.types.Definition.{Definition}
 use Rattle.hk_base.specs.declared.types.Structure.{Structure}
-use Rattle.hk_base.proofs.ReadingLemmas.{reads-then, reads-map, reads-check, reads-uint, reads-flag, reads-counted, whole-reads}
+use Rattle.body_fields.proofs.ReadingLemmas.{reads-then, reads-map, reads-check, reads-uint, reads-flag, reads-counted, whole-reads}
+use Rattle.body_fields.proofs.IntervalLemmas.{reads-interval}
 use Rattle.st03_grammar.specs.Instructions.{key_of}
 use Rattle.st03_grammar.specs.Bodies.{structure_field, key_field, repetition_fault, in_view, array_view, array_field, least_arrays, lists_field, definition_of, creation, appending, on_each, pair_field, intervals, request_body, structure_report, parameter_report, row_field, periodic_report, report_body}
-use Rattle.st03_grammar.specs.Spelling.{by_kind, each_subtype, request_subtype, report_subtype, array_octets, lists_octets, pair_octets, row_octets, request_octets, report_octets, IsInterval, AreParams, IsArray, AreArrays, AreLists, IsRequest03, IsReport03}
+use Rattle.st03_grammar.specs.Spelling.{by_kind, each_subtype, request_subtype, report_subtype, array_octets, lists_octets, pair_octets, row_octets, request_octets, report_octets, AreParams, IsArray, AreArrays, AreLists, IsRequest03, IsReport03}
 use Rattle.st03_grammar.specs.declared.bodies.Added.{Added}
 use Rattle.st03_grammar.specs.declared.bodies.Each.{Each}
 use Rattle.st03_grammar.specs.declared.bodies.Each.TheVariants.{Delete, Enable, Disable, Show, OneShot, ShowPeriodic}
@@ -44,10 +45,6 @@ reads-key : (t : TailoringParts) (key : Key) → key.id < 256 ^ t.widths.structu
 reads-key t key fits =
     reads-map (structure_field t []) (key_of key.kind) (structure_octets t key.id) key.id
     (reads-check (repeat_fault []) (uint t.widths.structure_octets) (structure_octets t key.id) key.id (reads-uint t.widths.structure_octets key.id fits) refl)
-
-reads-interval : (t : TailoringParts) (n : ℕ) → IsInterval t n → Reads (interval_field t) (interval_octets t n) n
-reads-interval t n is =
-    reads-check (interval_fault t) (uint t.widths.interval_octets) (interval_octets t n) n (reads-uint t.widths.interval_octets n is.1) is.0
 
 reads-array : (t : TailoringParts) (once : Bool) (interval : Option ℕ) (simple : List ℕ) (earlier : List SuperList) (a : SuperList)
     → IsArray t once interval simple earlier a

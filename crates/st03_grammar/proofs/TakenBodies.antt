@@ -1,11 +1,12 @@
 -- Housekeeping requests and reports stood in their spelling where they were read.
 use Rattle.std.proofs.Common.{◌≡◌, refl, sym, ap, ℕ, List, [], ◌++◌, append-nil, length, true, false, Some, None, Ok}
 use Rattle.hk_base.specs.TailoringParts.{TailoringParts}
-use Rattle.hk_base.specs.Reading.{then_read, counted_list, flag_field, interval_field}
-use Rattle.hk_base.specs.Spelling.{AreOctets, AllAmong, IsCount, counted_octets, structure_octets, interval_octets, flag_octets}
+use Rattle.body_fields.specs.Reading.{then_read, counted_list, flag_field, interval_field}
+use Rattle.body_fields.specs.Spelling.{AreOctets, AllAmong, IsCount, counted_octets, structure_octets, interval_octets, flag_octets}
 use Rattle.hk_base.specs.declared.types.Kind.{Kind}
 use Rattle.hk_base.specs.declared.types.Kind.TheVariants.{Housekeeping, Diagnostic}
-use Rattle.hk_base.proofs.TakingLemmas.{Took, took-then, took-map, took-flag, took-counted, body-took}
+use Rattle.body_fields.proofs.TakingLemmas.{Took, took-then, took-map, took-flag, took-counted, body-took}
+use Rattle.body_fields.proofs.IntervalLemmas.{IsSpelledInterval, took-interval}
 use Rattle.st03_grammar.specs.Bodies.{key_field, lists_field, structure_field, definition_of, creation, appending, on_each, pair_field, intervals, request_table, request_body, structure_report, parameter_report, row_field, periodic_report, report_table, report_body}
 use Rattle.st03_grammar.specs.Spelling.{by_kind, each_subtype, lists_octets, pair_octets, row_octets, AreStructures, AreLists, IsSpelledRequest, IsSpelledReport}
 use Rattle.st03_grammar.specs.declared.bodies.Each.{Each}
@@ -14,7 +15,7 @@ use Rattle.st03_grammar.specs.declared.bodies.Request03.{Request03}
 use Rattle.st03_grammar.specs.declared.bodies.Request03.TheVariants.{Create, Append, OnEach, Intervals}
 use Rattle.st03_grammar.specs.declared.bodies.Report03.{Report03}
 use Rattle.st03_grammar.specs.declared.bodies.Report03.TheVariants as told
-use Rattle.st03_grammar.proofs.TakenFields.{joined, IsSpelledKey, IsSpelledInterval, PairStands, RowStands, took-key, took-interval, took-lists, took-structures, took-pair, pairs_among, took-row, rows_among}
+use Rattle.st03_grammar.proofs.TakenFields.{joined, IsSpelledKey, PairStands, RowStands, took-key, took-lists, took-structures, took-pair, pairs_among, took-row, rows_among}
 
 took-creation : (t : TailoringParts) (kind : Kind) (octets : List ℕ) → AreOctets octets → Took (IsSpelledRequest t (by_kind kind 1 2)) octets (creation t kind octets)
 took-creation t kind octets are =
@@ -33,8 +34,8 @@ took-creation t kind octets are =
     (λ l end f. (
       ap (λ k. by_kind k 1 2) (sym h.1),
       joined text (more ++ end) (structure_octets t key.id) (interval_octets t n ++ lists_octets t l.simple l.arrays) h.0.0
-          (joined more end (interval_octets t n) (lists_octets t l.simple l.arrays) g.0.0 f.0),
-      (h.0.1, (g.1, g.0.1), f.1),
+          (joined more end (interval_octets t n) (lists_octets t l.simple l.arrays) g.0 f.0),
+      (h.0.1, g.1, f.1),
     ))))
 
 took-appending : (t : TailoringParts) (kind : Kind) (octets : List ℕ) → AreOctets octets → Took (IsSpelledRequest t (by_kind kind 29 30)) octets (appending t kind octets)
@@ -98,8 +99,8 @@ took-structure_report t kind octets are =
       ap (λ k. by_kind k 10 12) (sym h.1),
       joined text (flag ++ (more ++ end)) (structure_octets t key.id) (flag_octets enabled ++ (interval_octets t n ++ lists_octets t l.simple l.arrays)) h.0.0
           (joined flag (more ++ end) (flag_octets enabled) (interval_octets t n ++ lists_octets t l.simple l.arrays) e
-          (joined more end (interval_octets t n) (lists_octets t l.simple l.arrays) g.0.0 f.0)),
-      (h.0.1, (g.1, g.0.1), f.1),
+          (joined more end (interval_octets t n) (lists_octets t l.simple l.arrays) g.0 f.0)),
+      (h.0.1, g.1, f.1),
     )))))
 
 took-values : (t : TailoringParts) (kind : Kind) (octets : List ℕ) → AreOctets octets → Took (IsSpelledReport t (by_kind kind 25 26)) octets (parameter_report t kind octets)

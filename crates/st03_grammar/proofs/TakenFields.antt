@@ -3,16 +3,17 @@ use Rattle.std.proofs.Common.{◌≡◌, refl, ap, ◌∙◌, ℕ, ◌^◌, ◌<
 use Rattle.std.specs.List.{AllByRecursion}
 use Rattle.hk_base.specs.TailoringParts.{TailoringParts}
 use Rattle.hk_base.specs.Fields.{octets_of}
-use Rattle.hk_base.specs.Reading.{then_read, with_check, uint, counted_list, repeat_fault, param_fault, param_field, interval_fault, interval_field, flag_field}
-use Rattle.hk_base.specs.Spelling.{AreOctets, AllAmong, AllStand, AllFit, IsCount, counted_octets, structure_octets, param_octets, interval_octets, flag_octets}
-use Rattle.hk_base.specs.declared.types.BodyFault.{BodyFault}
+use Rattle.body_fields.specs.Reading.{then_read, with_check, uint, counted_list, repeat_fault, param_fault, param_field, interval_field, flag_field}
+use Rattle.body_fields.specs.Spelling.{AreOctets, AllAmong, AllStand, AllFit, IsCount, IsInterval, counted_octets, structure_octets, param_octets, interval_octets, flag_octets}
+use Rattle.body_fields.specs.declared.fault.BodyFault.{BodyFault}
 use Rattle.hk_base.specs.declared.types.Kind.{Kind}
 use Rattle.hk_base.specs.declared.types.Key.{Key}
 use Rattle.hk_base.specs.declared.types.SuperList.{SuperList}
-use Rattle.hk_base.proofs.TakingLemmas.{Took, IsSpelled, took-then, took-map, took-check, took-weaken, took-uint, took-flag, took-counted}
+use Rattle.body_fields.proofs.TakingLemmas.{Took, IsSpelled, took-then, took-map, took-check, took-weaken, took-uint, took-flag, took-counted}
+use Rattle.body_fields.proofs.IntervalLemmas.{IsSpelledInterval, took-interval}
 use Rattle.st03_grammar.specs.Instructions.{key_of}
 use Rattle.st03_grammar.specs.Bodies.{structure_field, key_field, repetition_fault, in_view, array_view, array_field, least_arrays, lists_field, pair_field, row_field}
-use Rattle.st03_grammar.specs.Spelling.{array_octets, lists_octets, pair_octets, row_octets, IsInterval, AreStructures, AreParams, IsArray, AreArrays, AreLists}
+use Rattle.st03_grammar.specs.Spelling.{array_octets, lists_octets, pair_octets, row_octets, AreStructures, AreParams, IsArray, AreArrays, AreLists}
 use Rattle.st03_grammar.specs.declared.bodies.Pair.{Pair}
 use Rattle.st03_grammar.specs.declared.bodies.PeriodicRow.{PeriodicRow}
 
@@ -29,14 +30,6 @@ took-key t kind octets are =
     took-map (λ id text. IsSpelled t.widths.structure_octets id text × (repeat_fault [] id ≡ None)) (IsSpelledKey t kind) octets (structure_field t [] octets) (key_of kind)
     (took-check (IsSpelled t.widths.structure_octets) (repeat_fault []) octets (uint t.widths.structure_octets octets) (took-uint t.widths.structure_octets octets are))
     (λ id text h. (h.0, refl))
-
--- an interval that was read
-abbrev pub IsSpelledInterval : TailoringParts → ℕ → List ℕ → Type 0
-IsSpelledInterval t n text = IsSpelled t.widths.interval_octets n text × (interval_fault t n ≡ None)
-
-pub took-interval : (t : TailoringParts) (octets : List ℕ) → AreOctets octets → Took (IsSpelledInterval t) octets (interval_field t octets)
-took-interval t octets are =
-    took-check (IsSpelled t.widths.interval_octets) (interval_fault t) octets (uint t.widths.interval_octets octets) (took-uint t.widths.interval_octets octets are)
 
 -- an ID that has room, and no fault among those before it
 abbrev pub Stands : ℕ → (List ℕ → ℕ → Option BodyFault) → List ℕ → ℕ → Type 0
@@ -141,7 +134,7 @@ took-pair t earlier octets are =
     (λ id text rest h are_rest.
     took-map (IsSpelledInterval t) (λ p more. (text ++ more ≡ pair_octets t p) × PairStands t earlier p) rest (interval_field t rest) (λ n. record { id = id; interval = n })
     (took-interval t rest are_rest)
-    (λ n more g. (joined text more (structure_octets t id) (interval_octets t n) h.0 g.0.0, (h.1, (g.1, g.0.1)))))
+    (λ n more g. (joined text more (structure_octets t id) (interval_octets t n) h.0 g.0, (h.1, g.1))))
 
 pub pairs_among : (t : TailoringParts) (earlier pairs : List Pair) → AllAmong (PairStands t) earlier pairs
     → AllStand repeat_fault (map (λ p. p.id) earlier) (map (λ p. p.id) pairs)
@@ -173,8 +166,8 @@ took-row t earlier octets are =
     (λ n. record { id = id; enabled = enabled; interval = n })
     (took-interval t others are_others)
     (λ n end f. (
-      joined text (more ++ end) (structure_octets t id) (flag_octets enabled ++ interval_octets t n) h.0 (joined more end (flag_octets enabled) (interval_octets t n) g f.0.0),
-      (h.1, (f.1, f.0.1)),
+      joined text (more ++ end) (structure_octets t id) (flag_octets enabled ++ interval_octets t n) h.0 (joined more end (flag_octets enabled) (interval_octets t n) g f.0),
+      (h.1, f.1),
     ))))
 
 pub rows_among : (t : TailoringParts) (earlier rows : List PeriodicRow) → AllAmong (RowStands t) earlier rows

@@ -2,14 +2,14 @@
 use Rattle.std.specs.Prelude.{ℕ, ◌%◌, List, [], ◌∷◌, ◌++◌, flat_map, map, Bool, true, false, not, ◌==◌, Option, Some, None, Result, Ok, if◌then◌else◌}
 use Rattle.std.specs.Option.{option_or, option_map_or}
 use Rattle.hk_base.specs.TailoringParts.{TailoringParts}
-use Rattle.hk_base.specs.Reading.{Read, then_read, with_check, fault_if, uint, counted_list, repeat_fault, param_field, interval_field, flag_field, body_of}
+use Rattle.body_fields.specs.Reading.{Read, then_read, with_check, fault_if, uint, counted_list, repeat_fault, param_field, interval_field, flag_field, body_of}
 use Rattle.hk_base.specs.declared.types.Kind.{Kind}
 use Rattle.hk_base.specs.declared.types.Kind.TheVariants.{Housekeeping, Diagnostic}
 use Rattle.hk_base.specs.declared.types.Key.{Key}
 use Rattle.hk_base.specs.declared.types.SuperList.{SuperList}
 use Rattle.hk_base.specs.declared.types.Definition.{Definition}
-use Rattle.hk_base.specs.declared.types.BodyFault.{BodyFault}
-use Rattle.hk_base.specs.declared.types.BodyFault.TheVariants.{ZeroCount, BadRepetition}
+use Rattle.body_fields.specs.declared.fault.BodyFault.{BodyFault}
+use Rattle.body_fields.specs.declared.fault.BodyFault.TheVariants.{ZeroCount, BadRepetition}
 use Rattle.st03_grammar.specs.Instructions.{key_of}
 use Rattle.st03_grammar.specs.declared.bodies.Added.{Added}
 use Rattle.st03_grammar.specs.declared.bodies.Each.{Each}

@@ -3,8 +3,8 @@ use Rattle.std.specs.Prelude.{◌≡◌, ℕ, ◌^◌, ◌<◌, ◌≤◌, ⊤, 
 use Rattle.std.specs.List.{AllByRecursion}
 use Rattle.hk_base.specs.TailoringParts.{TailoringParts}
 use Rattle.hk_base.specs.Fields.{octets_of}
-use Rattle.hk_base.specs.Reading.{repeat_fault, param_fault, interval_fault}
-use Rattle.hk_base.specs.Spelling.{AllStand, AllFit, IsCount, counted_octets, structure_octets, param_octets, interval_octets, flag_octets}
+use Rattle.body_fields.specs.Reading.{repeat_fault, param_fault}
+use Rattle.body_fields.specs.Spelling.{AllStand, AllFit, IsCount, IsInterval, counted_octets, structure_octets, param_octets, interval_octets, flag_octets}
 use Rattle.hk_base.specs.declared.types.Kind.{Kind}
 use Rattle.hk_base.specs.declared.types.Kind.TheVariants.{Housekeeping, Diagnostic}
 use Rattle.hk_base.specs.declared.types.SuperList.{SuperList}
@@ -74,10 +74,6 @@ report_octets t (told.Structure key s) =
     structure_octets t key.id ++ (flag_octets s.enabled ++ (interval_octets t s.def.interval ++ lists_octets t s.def.simple s.def.arrays))
 report_octets t (told.Values key payload) = structure_octets t key.id ++ payload
 report_octets t (told.Periodic kind rows) = counted_octets t (row_octets t) rows
-
--- an interval that a field can have
-abbrev pub IsInterval : TailoringParts → ℕ → Type 0
-IsInterval t n = (interval_fault t n ≡ None) × (n < 256 ^ t.widths.interval_octets)
 
 -- IDs of structures of which none stands twice
 abbrev pub AreStructures : TailoringParts → List ℕ → Type 0

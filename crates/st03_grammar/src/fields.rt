@@ -1,12 +1,12 @@
 ghost use Rattle.std.specs.Prelude.{◌≡◌, ◌≤◌, ◌==◌, List, ℕ, [], length, reverse, map, IfOk};
 ghost use Rattle.std.specs.List.{list_any};
-ghost use Rattle.hk_base.specs.Outcomes.{Gives, Finds};
-ghost use Rattle.hk_base.specs.Reading.{repeat_fault};
+ghost use Rattle.body_fields.specs.Outcomes.{Gives, Finds};
+ghost use Rattle.body_fields.specs.Reading.{repeat_fault};
 ghost use Rattle.st03_grammar.specs.Bodies.{structure_field, key_field, pair_field, row_field};
 
 use crate::bodies::{Pair, PeriodicRow};
-use hk_base::body::{ReadMember, is_listed, read_flag, read_interval, read_number};
-use hk_base::{BodyFault, Key, Kind, Tailoring};
+use body_fields::{BodyFault, ReadMember, is_listed, read_flag, read_interval, read_number};
+use hk_base::{Key, Kind, Tailoring};
 
 /// Tests the ID of a structure, of which it is told whether it stood before.
 fn check_structure(is_repeated: bool, id: u32) -> Result<(), BodyFault>

@@ -1,7 +1,7 @@
 //! Each request and each report has one spelling.
 ghost use Rattle.std.specs.Prelude.{◌≡◌, ℕ, List, Some, Ok};
 ghost use Rattle.hk_base.specs.TailoringParts.{TailoringParts};
-ghost use Rattle.hk_base.specs.Spelling.{AreOctets};
+ghost use Rattle.body_fields.specs.Spelling.{AreOctets};
 ghost use Rattle.st03_grammar.specs.declared.bodies.Request03.{Request03};
 ghost use Rattle.st03_grammar.specs.declared.bodies.Report03.{Report03};
 ghost use Rattle.st03_grammar.specs.Bodies.{request_body, report_body};

@@ -1,12 +1,12 @@
 ghost use Rattle.std.specs.Prelude.{◌≡◌, ◌≤◌, ◌==◌, List, ℕ, [], ◌++◌, length, reverse, flat_map, IfOk};
 ghost use Rattle.std.specs.List.{list_any};
-ghost use Rattle.hk_base.specs.Outcomes.{Gives, Finds};
-ghost use Rattle.hk_base.specs.Reading.{param_field};
+ghost use Rattle.body_fields.specs.Outcomes.{Gives, Finds};
+ghost use Rattle.body_fields.specs.Reading.{param_field};
 ghost use Rattle.st03_grammar.specs.Bodies.{in_view, array_view, repetition_fault, array_field, lists_field, least_arrays};
 
 use crate::bodies::Added;
-use hk_base::body::{ReadMember, check_param, is_listed, read_list, read_number};
-use hk_base::{BodyFault, Items, SuperList, Tailoring};
+use body_fields::{BodyFault, ReadMember, check_param, is_listed, read_list, read_number};
+use hk_base::{Items, SuperList, Tailoring};
 use std::alloc::Global;
 
 /// Simple parameters, in a report each once.

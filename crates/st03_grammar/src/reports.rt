@@ -1,15 +1,15 @@
 ghost use Rattle.std.specs.Prelude.{◌≡◌, ◌≤◌, ◌^◌, true, length, is_some, IfOk, IfSome};
 ghost use Rattle.hk_base.specs.TailoringParts.{TailoringParts};
-ghost use Rattle.hk_base.specs.Outcomes.{Gives};
-ghost use Rattle.hk_base.specs.Reading.{reader};
+ghost use Rattle.body_fields.specs.Outcomes.{Gives};
+ghost use Rattle.body_fields.specs.Reading.{reader};
 ghost use Rattle.st03_grammar.specs.Spelling.{IsSpelledReport};
 ghost use Rattle.st03_grammar.specs.Bodies.{structure_report, parameter_report, periodic_report, report_table, report_body};
 
 use crate::bodies::Report03;
 use crate::fields::{Rows, read_key};
 use crate::lists::read_lists;
-use hk_base::body::{read_flag, read_interval, read_list, whole};
-use hk_base::{BodyFault, Definition, Items, Kind, Structure, Tailoring};
+use body_fields::{BodyFault, read_flag, read_interval, read_list, whole};
+use hk_base::{Definition, Items, Kind, Structure, Tailoring};
 use std::alloc::Global;
 
 /// A structure: its ID, its status, its interval, and its parameters, each once.

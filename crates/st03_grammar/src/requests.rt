@@ -1,7 +1,7 @@
 ghost use Rattle.std.specs.Prelude.{◌≡◌, ◌≤◌, ◌^◌, true, length, is_some, IfOk, IfSome};
 ghost use Rattle.hk_base.specs.TailoringParts.{TailoringParts};
-ghost use Rattle.hk_base.specs.Outcomes.{Gives};
-ghost use Rattle.hk_base.specs.Reading.{reader};
+ghost use Rattle.body_fields.specs.Outcomes.{Gives};
+ghost use Rattle.body_fields.specs.Reading.{reader};
 ghost use Rattle.st03_grammar.specs.Instructions.{structure_changes, AreKeysApart};
 ghost use Rattle.st03_grammar.specs.Spelling.{IsSpelledRequest};
 ghost use Rattle.st03_grammar.specs.Bodies.{creation, appending, on_each, intervals, request_table, request_body};
@@ -9,8 +9,8 @@ ghost use Rattle.st03_grammar.specs.Bodies.{creation, appending, on_each, interv
 use crate::bodies::{Each, Request03};
 use crate::fields::{Pairs, StructureIds, read_key};
 use crate::lists::read_lists;
-use hk_base::body::{read_interval, read_list, whole};
-use hk_base::{BodyFault, Definition, Kind, Tailoring};
+use body_fields::{BodyFault, read_interval, read_list, whole};
+use hk_base::{Definition, Kind, Tailoring};
 use std::alloc::Global;
 
 /// Creation of a structure: its ID, its interval, and its parameters.

@@ -1,14 +1,14 @@
 ghost use Rattle.std.specs.Prelude.{◌≡◌, ◌<◌, ◌≤◌, ◌^◌, ◌++◌, length, IfOk, OnOk, OnErr};
 ghost use Rattle.std.specs.List.{AllByRecursion};
-ghost use Rattle.hk_base.specs.Outcomes.{Appends};
-ghost use Rattle.hk_base.specs.Spelling.{counted_octets, structure_octets, param_octets, interval_octets};
+ghost use Rattle.body_fields.specs.Outcomes.{Appends};
+ghost use Rattle.body_fields.specs.Spelling.{counted_octets, structure_octets, param_octets, interval_octets};
 ghost use Rattle.st03_grammar.specs.Spelling.{ListsFit, PairFits, RowFits, ArrayFits, ParamsFit, RequestFits, ReportFits, IsRequest03, IsReport03};
 ghost use Rattle.st03_grammar.specs.Spelling as spelling;
 
 use crate::bodies::{Pair, PeriodicRow, Report03, Request03};
 use crate::fields::{Pairs, Rows, StructureIds};
 use crate::subtypes::{report_subtype, request_subtype};
-use hk_base::body::{
+use body_fields::{
     WriteMember, or_undo, write_flag, write_interval, write_list, write_param_id,
     write_structure_id,
 };

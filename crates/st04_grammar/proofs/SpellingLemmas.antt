@@ -9,18 +9,19 @@ use Rattle.hk_base.specs.TailoringParts.{TailoringParts}
 use Rattle.hk_base.specs.Fields.{octets_of, signed_octets_of}
 use Rattle.hk_base.specs.Parameters.{parameter}
 use Rattle.hk_base.specs.Fit.{IsFit}
-use Rattle.hk_base.specs.Reading.{Read, then_read, fault_if, octets_field, uint, counted_list, param_fault, interval_fault, interval_field, flag_field, time_field, form_number, value_of_field}
-use Rattle.hk_base.specs.Spelling.{Reads, AllRead, AllStand, AllAmong, AreOctets, IsCount, IsInOctets, IsValueOf, counted_octets, param_octets, interval_octets, flag_octets, time_octets, value_octets, mean_octets}
+use Rattle.body_fields.specs.Reading.{Read, then_read, fault_if, octets_field, uint, counted_list, param_fault, interval_field, flag_field, time_field, form_number, value_of_field}
+use Rattle.body_fields.specs.Spelling.{Reads, AllRead, AllStand, AllAmong, AreOctets, IsCount, IsInOctets, IsInterval, IsValueOf, counted_octets, param_octets, interval_octets, flag_octets, time_octets, value_octets, mean_octets}
 use Rattle.hk_base.specs.declared.types.Param.{Param}
-use Rattle.hk_base.specs.declared.types.BodyFault.{BodyFault}
-use Rattle.hk_base.specs.declared.types.BodyFault.TheVariants.{ZeroCount, UnknownParam, ZeroInterval, LongInterval}
-use Rattle.hk_base.proofs.ReadingLemmas.{reads-then, reads-map, reads-check, reads-uint, reads-flag, reads-counted, whole-reads}
-use Rattle.hk_base.proofs.ValueLemmas.{reads-field, length-value, value-again}
-use Rattle.hk_base.proofs.FitLemmas.{param_known, param_in_octets}
-use Rattle.hk_base.proofs.NamedLemmas.{reads-ids, ids_known, took-id, all_stand, ids_stand, reads-value_of, took-value_of}
-use Rattle.hk_base.proofs.TakingLemmas.{Took, IsSpelled, took-then, took-map, took-weaken, took-check, took-octets, took-uint, took-flag, took-counted, value-spelled, no_fault, body-took}
+use Rattle.body_fields.specs.declared.fault.BodyFault.{BodyFault}
+use Rattle.body_fields.specs.declared.fault.BodyFault.TheVariants.{ZeroCount, UnknownParam, ZeroInterval, LongInterval}
+use Rattle.body_fields.proofs.ReadingLemmas.{reads-then, reads-map, reads-check, reads-uint, reads-flag, reads-counted, whole-reads}
+use Rattle.body_fields.proofs.ValueLemmas.{reads-field, length-value, value-again}
+use Rattle.body_fields.proofs.FitLemmas.{param_known, param_in_octets}
+use Rattle.body_fields.proofs.NamedLemmas.{reads-ids, ids_known, took-id, all_stand, ids_stand, reads-value_of, took-value_of}
+use Rattle.body_fields.proofs.TakingLemmas.{Took, IsSpelled, took-then, took-map, took-weaken, took-check, took-octets, took-uint, took-flag, took-counted, value-spelled, no_fault, body-took}
+use Rattle.body_fields.proofs.IntervalLemmas.{reads-interval, took-interval}
 use Rattle.st04_grammar.specs.Bodies.{numeric_fault, form_fault, numeric_field, numeric_ids, mean_field, samples_field, row_field, report_request, enable_request, add_request, delete_request, statistics_report, definition_report, request_table, report_table, request_body, report_body}
-use Rattle.st04_grammar.specs.Spelling.{request_subtype, request_octets, report_subtype, row_octets, statistics_octets, definition_octets, report_octets, ids_of, IsInterval, IsTime, IsMeanOf, IsRow, IsKnownRow, AreRows, AreNumericIds, IsStatistics, IsRequest, IsReport}
+use Rattle.st04_grammar.specs.Spelling.{request_subtype, request_octets, report_subtype, row_octets, statistics_octets, definition_octets, report_octets, ids_of, IsTime, IsMeanOf, IsRow, IsKnownRow, AreRows, AreNumericIds, IsStatistics, IsRequest, IsReport}
 use Rattle.st04_grammar.specs.declared.bodies.Request04.{Request04}
 use Rattle.st04_grammar.specs.declared.bodies.Request04.TheVariants.{Report, Reset, Enable, Disable, Add, Delete, ShowDefinitions}
 use Rattle.st04_grammar.specs.declared.bodies.StatRow.{StatRow}
@@ -39,36 +40,6 @@ numeric_is_known t earlier id e = go (param_fault t earlier id) refl e
 -- lists of IDs that stand can be written
 pub numeric_known : (t : TailoringParts) (least : ℕ) (ids : List ℕ) → AreNumericIds t least ids → AllByRecursion (λ id. IsSome (parameter t id)) ids
 numeric_known t least ids are = ids_known t (numeric_fault t) [] ids (numeric_is_known t) are.stand
-
--- an interval of the tailoring has no fault, and its octets have room for it
-pub interval_fits : (t : TailoringParts) (n : ℕ) → IsFit t → IsInterval t n → n < 256 ^ t.widths.interval_octets
-interval_fits t n fit is = omega (arith, is.1, fit.widths.max_interval.1)
-
-interval_stands : (t : TailoringParts) (n : ℕ) → IsInterval t n → interval_fault t n ≡ None
-interval_stands t n is =
-    let some : n == 0 ≡ false = let low = is.0 in grind (arith, nat_tests) in
-    let short : nat_lt t.widths.max_interval n ≡ false = let high = is.1 in grind (arith, nat_tests) in
-    rw (some, short) refl
-
-stands_interval : (t : TailoringParts) (n : ℕ) → interval_fault t n ≡ None → IsInterval t n
-stands_interval t n e = go (n == 0) (nat_lt t.widths.max_interval n) refl refl e
-  where
-    go : (none_test long_test : Bool) → n == 0 ≡ none_test → nat_lt t.widths.max_interval n ≡ long_test
-        → option_or (fault_if none_test ZeroInterval) (fault_if long_test (LongInterval n)) ≡ None → IsInterval t n
-    go true long_test a b h = absurd (none-some ZeroInterval (sym h))
-    go false true a b h = absurd (none-some (LongInterval n) (sym h))
-    go false false a b h = (grind (arith, nat_tests), grind (arith, nat_tests))
-
-reads-interval : (t : TailoringParts) (n : ℕ) → IsFit t → IsInterval t n → Reads (interval_field t) (interval_octets t n) n
-reads-interval t n fit is =
-    reads-check (interval_fault t) (uint t.widths.interval_octets) (interval_octets t n) n
-    (reads-uint t.widths.interval_octets n (interval_fits t n fit is)) (interval_stands t n is)
-
-took-interval : (t : TailoringParts) (octets : List ℕ) → AreOctets octets → Took (λ n text. (text ≡ interval_octets t n) × IsInterval t n) octets (interval_field t octets)
-took-interval t octets are =
-    took-weaken (λ n text. IsSpelled t.widths.interval_octets n text × (interval_fault t n ≡ None)) (λ n text. (text ≡ interval_octets t n) × IsInterval t n) octets (interval_field t octets)
-    (took-check (IsSpelled t.widths.interval_octets) (interval_fault t) octets (uint t.widths.interval_octets octets) (took-uint t.widths.interval_octets octets are))
-    (λ n text h. (h.0.0, stands_interval t n h.1))
 
 -- lists of IDs
 reads-numeric : (t : TailoringParts) (least : ℕ) (ids : List ℕ) → IsFit t → AreNumericIds t least ids → Reads (numeric_ids t least) (counted_octets t (param_octets t) ids) ids
@@ -202,7 +173,7 @@ reads-definition t enabled n ids fit interval are =
     (reads-flag enabled)
     (reads-then (interval_field t) (λ m more. then_read (numeric_ids t 0 more) (λ xs end. Ok (told.Definitions enabled m xs, end)))
     (interval_octets t n) (counted_octets t (param_octets t) ids) n (told.Definitions enabled n ids)
-    (reads-interval t n fit interval)
+    (reads-interval t n interval)
     (reads-map (numeric_ids t 0) (λ xs. told.Definitions enabled n xs) (counted_octets t (param_octets t) ids) ids (reads-numeric t 0 ids fit are)))
 
 -- a request of the grammar is read from its spelling
@@ -211,7 +182,7 @@ request-again t (Report resets) fit is =
     ap Some (whole-reads report_request (flag_octets resets) (Report resets) (reads-map flag_field Report (flag_octets resets) resets (reads-flag resets)))
 request-again t Reset fit is = refl
 request-again t (Enable n) fit is =
-    ap Some (whole-reads (enable_request t) (interval_octets t n) (Enable n) (reads-map (interval_field t) Enable (interval_octets t n) n (reads-interval t n fit is)))
+    ap Some (whole-reads (enable_request t) (interval_octets t n) (Enable n) (reads-map (interval_field t) Enable (interval_octets t n) n (reads-interval t n is)))
 request-again t Disable fit is = refl
 request-again t (Add ids) fit is =
     ap Some

@@ -1,8 +1,8 @@
 -- Fields that are appended one after another.
 use Rattle.std.proofs.Common.{◌≡◌, ℕ, List, ◌++◌, Result, Ok, Err}
 use Rattle.std.specs.Prelude.{OnOk, OnErr}
-use Rattle.hk_base.specs.Outcomes.{Appends}
-use Rattle.hk_base.proofs.Writing.{kept_before, kept_same, parts}
+use Rattle.body_fields.specs.Outcomes.{Appends}
+use Rattle.body_fields.proofs.WritingLemmas.{kept_before, kept_same, parts}
 
 -- the last part after others
 pub last_part : {X E : Type 0} (old part mid last new : List ℕ) (r : Result X E) → mid ≡ old ++ part → OnOk r (new ≡ mid ++ last) → OnErr r (new ≡ mid)

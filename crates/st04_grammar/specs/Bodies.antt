@@ -3,11 +3,11 @@ use Rattle.std.specs.Prelude.{ℕ, ◌+◌, List, [], ◌∷◌, map, not, ℤ, 
 use Rattle.std.specs.Option.{option_or, option_map_or}
 use Rattle.hk_base.specs.TailoringParts.{TailoringParts}
 use Rattle.hk_base.specs.Parameters.{parameter}
-use Rattle.hk_base.specs.Reading.{Read, then_read, with_check, fault_if, octets_field, uint, counted_list, param_fault, interval_field, flag_field, time_field, form_number, value_of_field, body_of}
+use Rattle.body_fields.specs.Reading.{Read, then_read, with_check, fault_if, octets_field, uint, counted_list, param_fault, interval_field, flag_field, time_field, form_number, value_of_field, body_of}
 use Rattle.hk_base.specs.declared.types.Form.{Form}
 use Rattle.hk_base.specs.declared.types.Form.TheVariants.{Unsigned, Signed, Enumerated, Boolean}
-use Rattle.hk_base.specs.declared.types.BodyFault.{BodyFault}
-use Rattle.hk_base.specs.declared.types.BodyFault.TheVariants.{ZeroCount, UnknownParam, NotNumeric}
+use Rattle.body_fields.specs.declared.fault.BodyFault.{BodyFault}
+use Rattle.body_fields.specs.declared.fault.BodyFault.TheVariants.{ZeroCount, UnknownParam, NotNumeric}
 use Rattle.st04_grammar.specs.declared.bodies.Request04.{Request04}
 use Rattle.st04_grammar.specs.declared.bodies.Request04.TheVariants.{Report, Reset, Enable, Disable, Add, Delete, ShowDefinitions}
 use Rattle.st04_grammar.specs.declared.bodies.StatRow.{StatRow}

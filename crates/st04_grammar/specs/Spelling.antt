@@ -3,10 +3,9 @@ use Rattle.std.specs.Prelude.{ℕ, ◌+◌, ◌^◌, ◌<◌, ◌≤◌, ℤ, �
 use Rattle.std.specs.List.{AllByRecursion}
 use Rattle.hk_base.specs.TailoringParts.{TailoringParts}
 use Rattle.hk_base.specs.Fields.{octets_of}
-use Rattle.hk_base.specs.Fit.{IsWithin}
 use Rattle.hk_base.specs.Parameters.{parameter}
 use Rattle.st04_grammar.specs.Bodies.{numeric_fault}
-use Rattle.hk_base.specs.Spelling.{AllStand, IsCount, IsInOctets, IsValueOf, counted_octets, param_octets, interval_octets, flag_octets, time_octets, value_octets, mean_octets}
+use Rattle.body_fields.specs.Spelling.{AllStand, IsCount, IsInOctets, IsInterval, IsValueOf, counted_octets, param_octets, interval_octets, flag_octets, time_octets, value_octets, mean_octets}
 use Rattle.st04_grammar.specs.declared.bodies.Request04.{Request04}
 use Rattle.st04_grammar.specs.declared.bodies.Request04.TheVariants.{Report, Reset, Enable, Disable, Add, Delete, ShowDefinitions}
 use Rattle.st04_grammar.specs.declared.bodies.StatRow.{StatRow}
@@ -64,10 +63,6 @@ report_octets t (told.Definitions enabled n ids) = definition_octets t enabled n
 -- the parameters of rows
 abbrev pub ids_of : List StatRow → List ℕ
 ids_of rows = map (λ r. r.param) rows
-
--- an interval of the tailoring
-abbrev pub IsInterval : TailoringParts → ℕ → Type 0
-IsInterval t n = IsWithin 1 t.widths.max_interval n
 
 -- a tag that the field of a time has room for
 abbrev pub IsTime : TailoringParts → ℕ → Type 0

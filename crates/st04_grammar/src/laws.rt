@@ -2,7 +2,7 @@
 ghost use Rattle.std.specs.Prelude.{◌≡◌, ℕ, List, Some, Ok};
 ghost use Rattle.hk_base.specs.TailoringParts.{TailoringParts};
 ghost use Rattle.hk_base.specs.Fit.{IsFit};
-ghost use Rattle.hk_base.specs.Spelling.{AreOctets};
+ghost use Rattle.body_fields.specs.Spelling.{AreOctets};
 ghost use Rattle.st04_grammar.specs.declared.bodies.Request04.{Request04};
 ghost use Rattle.st04_grammar.specs.declared.bodies.Report04.{Report04};
 ghost use Rattle.st04_grammar.specs.Bodies.{request_body, report_body};

@@ -1,12 +1,12 @@
 //! IDs of parameters that have numbers.
 ghost use Rattle.std.specs.Prelude.{◌≡◌, ◌≤◌, ◌==◌, List, ℕ, length, reverse, IfOk};
 ghost use Rattle.std.specs.List.{list_any};
-ghost use Rattle.hk_base.specs.Outcomes.{Gives, Finds};
+ghost use Rattle.body_fields.specs.Outcomes.{Gives, Finds};
 ghost use Rattle.st04_grammar.specs.Bodies as bodies;
 ghost use Rattle.st04_grammar.specs.Bodies.{form_fault, numeric_fault, numeric_field};
 
-use hk_base::body::{ReadMember, check_param, is_listed, read_number};
-use hk_base::{BodyFault, Form, Tailoring};
+use body_fields::{BodyFault, ReadMember, check_param, is_listed, read_number};
+use hk_base::{Form, Tailoring};
 
 /// Tests the ID of a parameter with numbers, of which it is told whether it stood before.
 pub fn check_numeric(tailoring: &Tailoring, is_repeated: bool, id: u32) -> Result<(), BodyFault>

@@ -1,20 +1,21 @@
 //! Reports, read and written.
 ghost use Rattle.std.specs.Prelude.{◌≡◌, ◌≤◌, ◌^◌, ◌++◌, length, is_some, IsSome, IfSome, IfOk, OnErr};
 ghost use Rattle.hk_base.specs.TailoringParts.{TailoringParts};
-ghost use Rattle.hk_base.specs.Outcomes.{Gives, Appends};
-ghost use Rattle.hk_base.specs.Reading.{reader};
+ghost use Rattle.body_fields.specs.Outcomes.{Gives, Appends};
+ghost use Rattle.body_fields.specs.Reading.{reader};
+ghost use Rattle.body_fields.specs.Spelling.{IsInterval};
 ghost use Rattle.st04_grammar.specs.Bodies.{report_table, report_body, statistics_report, definition_report};
-ghost use Rattle.st04_grammar.specs.Spelling.{IsInterval, IsStatistics, AreNumericIds, IsReport, report_subtype, statistics_octets, definition_octets, report_octets};
+ghost use Rattle.st04_grammar.specs.Spelling.{IsStatistics, AreNumericIds, IsReport, report_subtype, statistics_octets, definition_octets, report_octets};
 
 use crate::bodies::{Report04, StatReport};
-use crate::fields::{write_ids, write_known_interval};
+use crate::fields::write_ids;
 use crate::numeric::NumericIds;
 use crate::rows::Rows;
-use hk_base::body::{
-    or_undo, read_flag, read_interval, read_list, read_time, whole, write_flag, write_list,
-    write_time,
+use body_fields::{
+    BodyFault, or_undo, read_flag, read_interval, read_list, read_time, whole, write_flag,
+    write_interval, write_list, write_time,
 };
-use hk_base::{BodyFault, Memory, Tailoring};
+use hk_base::{Memory, Tailoring};
 use std::alloc::Global;
 
 /// Whether reports have this subtype.
@@ -138,6 +139,6 @@ fn write_definitions(
     ensures { Appends out.old.items result out.new.items (definition_octets tailoring.now enabled interval ids.now) }
 {
     write_flag(enabled, out)?;
-    write_known_interval(tailoring, interval, out)?;
+    write_interval(tailoring, interval, out)?;
     write_ids(tailoring, ids, out)
 }

@@ -1,16 +1,18 @@
 //! Requests, read and written.
 ghost use Rattle.std.specs.Prelude.{◌≡◌, ◌≤◌, ◌^◌, ◌++◌, length, is_some, IsSome, IfSome, IfOk, OnErr};
 ghost use Rattle.hk_base.specs.TailoringParts.{TailoringParts};
-ghost use Rattle.hk_base.specs.Outcomes.{Gives};
-ghost use Rattle.hk_base.specs.Reading.{reader, whole_body};
+ghost use Rattle.body_fields.specs.Outcomes.{Gives};
+ghost use Rattle.body_fields.specs.Reading.{reader, whole_body};
 ghost use Rattle.st04_grammar.specs.Bodies.{request_table, request_body, bare_request, report_request, enable_request, add_request, delete_request};
 ghost use Rattle.st04_grammar.specs.Spelling.{IsRequest, request_subtype, request_octets};
 
 use crate::bodies::Request04;
-use crate::fields::{write_ids, write_known_interval};
+use crate::fields::write_ids;
 use crate::numeric::NumericIds;
-use hk_base::body::{read_flag, read_interval, read_list, whole, write_flag};
-use hk_base::{BodyFault, Memory, Tailoring};
+use body_fields::{
+    BodyFault, read_flag, read_interval, read_list, whole, write_flag, write_interval,
+};
+use hk_base::{Memory, Tailoring};
 use std::alloc::Global;
 
 /// Whether requests have this subtype.
@@ -111,7 +113,7 @@ pub fn encode_request(
 {
     match request {
         Request04::Report(resets) => write_flag(*resets, out)?,
-        Request04::Enable(interval) => write_known_interval(tailoring, *interval, out)?,
+        Request04::Enable(interval) => write_interval(tailoring, *interval, out)?,
         Request04::Add(ids) => write_ids(tailoring, ids.as_slice(), out)?,
         Request04::Delete(ids) => write_ids(tailoring, ids.as_slice(), out)?,
         Request04::Reset | Request04::Disable | Request04::ShowDefinitions => {}

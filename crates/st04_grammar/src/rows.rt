@@ -1,19 +1,19 @@
 //! Rows of a report: the statistics of one parameter each.
 ghost use Rattle.std.specs.Prelude.{◌≡◌, ◌≤◌, ◌==◌, ◌++◌, List, ℕ, length, reverse, map, IsSome, IfOk, OnOk, OnErr};
 ghost use Rattle.std.specs.List.{list_any};
-ghost use Rattle.hk_base.specs.Outcomes.{Gives, Appends};
+ghost use Rattle.body_fields.specs.Outcomes.{Gives, Appends};
 ghost use Rattle.hk_base.specs.Parameters.{parameter};
-ghost use Rattle.hk_base.specs.Spelling.{mean_octets};
+ghost use Rattle.body_fields.specs.Spelling.{mean_octets};
 ghost use Rattle.st04_grammar.specs.Bodies.{row_field, samples_field, mean_field};
 ghost use Rattle.st04_grammar.specs.Spelling.{ids_of, row_octets, IsMeanOf, IsKnownRow};
 
 use crate::bodies::StatRow;
 use crate::numeric::check_numeric;
-use hk_base::body::{
-    ReadMember, WriteMember, read_form_number, read_number, read_time, read_value_of,
+use body_fields::{
+    BodyFault, ReadMember, WriteMember, read_form_number, read_number, read_time, read_value_of,
     write_form_number, write_known_id, write_time, write_value_of,
 };
-use hk_base::{BodyFault, Memory, Tailoring, Value, put_uint};
+use hk_base::{Memory, Tailoring, Value, put_uint};
 
 /// Rows of different parameters.
 #[derive(Drop)]

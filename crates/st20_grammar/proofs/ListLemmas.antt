@@ -2,7 +2,7 @@
 use Rattle.std.proofs.Common.{◌≡◌, ◌∙◌, refl, ap, ℕ, List, [], ◌∷◌}
 use Rattle.std.specs.Prelude.{reverse, ◌==◌, ◌||◌}
 use Rattle.std.specs.List.{list_any}
-use Rattle.hk_base.proofs.ListReading.{list_any-reverse}
+use Rattle.body_fields.proofs.ListReading.{list_any-reverse}
 use Rattle.st20_grammar.specs.Spelling.{ids_of}
 use Rattle.st20_grammar.specs.declared.bodies.Setting.{Setting}
 

@@ -7,14 +7,14 @@ use Rattle.std.proofs.lemmas.Option.{none-some}
 use Rattle.hk_base.specs.TailoringParts.{TailoringParts}
 use Rattle.hk_base.specs.Parameters.{parameter, is_settable}
 use Rattle.hk_base.specs.Fit.{IsFit}
-use Rattle.hk_base.specs.Reading.{then_read, with_check, fault_if, uint, counted_list, param_fault, param_field, value_of_field}
-use Rattle.hk_base.specs.Spelling.{Reads, AllRead, AllStand, AllAmong, AreOctets, IsCount, IsValueOf, counted_octets, param_octets, value_octets}
-use Rattle.hk_base.specs.declared.types.BodyFault.{BodyFault}
-use Rattle.hk_base.specs.declared.types.BodyFault.TheVariants.{NotSettable}
-use Rattle.hk_base.proofs.ReadingLemmas.{reads-then, reads-map, reads-check, reads-uint, reads-counted, whole-reads}
-use Rattle.hk_base.proofs.FitLemmas.{param_known, param_in_octets}
-use Rattle.hk_base.proofs.NamedLemmas.{id_field, reads-ids, took-id, all_stand, ids_stand, reads-value_of, took-value_of}
-use Rattle.hk_base.proofs.TakingLemmas.{Took, took-then, took-map, took-counted, body-took}
+use Rattle.body_fields.specs.Reading.{then_read, with_check, fault_if, uint, counted_list, param_fault, param_field, value_of_field}
+use Rattle.body_fields.specs.Spelling.{Reads, AllRead, AllStand, AllAmong, AreOctets, IsCount, IsValueOf, counted_octets, param_octets, value_octets}
+use Rattle.body_fields.specs.declared.fault.BodyFault.{BodyFault}
+use Rattle.body_fields.specs.declared.fault.BodyFault.TheVariants.{NotSettable}
+use Rattle.body_fields.proofs.ReadingLemmas.{reads-then, reads-map, reads-check, reads-uint, reads-counted, whole-reads}
+use Rattle.body_fields.proofs.FitLemmas.{param_known, param_in_octets}
+use Rattle.body_fields.proofs.NamedLemmas.{id_field, reads-ids, took-id, all_stand, ids_stand, reads-value_of, took-value_of}
+use Rattle.body_fields.proofs.TakingLemmas.{Took, took-then, took-map, took-counted, body-took}
 use Rattle.st20_grammar.specs.Bodies.{settable_fault, setting_field, request_table, report_table, request_body, report_body}
 use Rattle.st20_grammar.specs.Spelling.{setting_octets, request_subtype, request_octets, report_subtype, report_octets, ids_of, AreSettings, IsSetting, IsRequest, IsReport}
 use Rattle.st20_grammar.specs.declared.bodies.Setting.{Setting}

@@ -3,9 +3,9 @@ use Rattle.std.specs.Prelude.{ℕ, List, [], ◌∷◌, map, Bool, true, false, 
 use Rattle.std.specs.Option.{option_or, option_map_or}
 use Rattle.hk_base.specs.TailoringParts.{TailoringParts}
 use Rattle.hk_base.specs.Parameters.{parameter, is_settable}
-use Rattle.hk_base.specs.Reading.{Read, then_read, with_check, fault_if, uint, counted_list, param_fault, param_field, value_of_field, body_of}
-use Rattle.hk_base.specs.declared.types.BodyFault.{BodyFault}
-use Rattle.hk_base.specs.declared.types.BodyFault.TheVariants.{NotSettable}
+use Rattle.body_fields.specs.Reading.{Read, then_read, with_check, fault_if, uint, counted_list, param_fault, param_field, value_of_field, body_of}
+use Rattle.body_fields.specs.declared.fault.BodyFault.{BodyFault}
+use Rattle.body_fields.specs.declared.fault.BodyFault.TheVariants.{NotSettable}
 use Rattle.st20_grammar.specs.declared.bodies.Setting.{Setting}
 use Rattle.st20_grammar.specs.declared.bodies.Request20.{Request20}
 use Rattle.st20_grammar.specs.declared.bodies.Request20.TheVariants.{Report, Set}

@@ -2,10 +2,10 @@
 use Rattle.std.specs.Prelude.{ℕ, List, [], ◌++◌, length, map, Option, IsSome}
 use Rattle.std.specs.List.{AllByRecursion}
 use Rattle.hk_base.specs.Parameters.{parameter}
-use Rattle.hk_base.specs.Reading.{param_fault}
-use Rattle.hk_base.specs.declared.types.BodyFault.{BodyFault}
+use Rattle.body_fields.specs.Reading.{param_fault}
+use Rattle.body_fields.specs.declared.fault.BodyFault.{BodyFault}
 use Rattle.hk_base.specs.TailoringParts.{TailoringParts}
-use Rattle.hk_base.specs.Spelling.{AllStand, IsCount, IsValueOf, counted_octets, param_octets, value_octets}
+use Rattle.body_fields.specs.Spelling.{AllStand, IsCount, IsValueOf, counted_octets, param_octets, value_octets}
 use Rattle.st20_grammar.specs.Bodies.{settable_fault}
 use Rattle.st20_grammar.specs.declared.bodies.Setting.{Setting}
 use Rattle.st20_grammar.specs.declared.bodies.Request20.{Request20}

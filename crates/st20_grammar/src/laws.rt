@@ -2,7 +2,7 @@
 ghost use Rattle.std.specs.Prelude.{◌≡◌, ℕ, List, Some, Ok};
 ghost use Rattle.hk_base.specs.TailoringParts.{TailoringParts};
 ghost use Rattle.hk_base.specs.Fit.{IsFit};
-ghost use Rattle.hk_base.specs.Spelling.{AreOctets};
+ghost use Rattle.body_fields.specs.Spelling.{AreOctets};
 ghost use Rattle.st20_grammar.specs.declared.bodies.Request20.{Request20};
 ghost use Rattle.st20_grammar.specs.declared.bodies.Report20.{Report20};
 ghost use Rattle.st20_grammar.specs.Bodies.{request_body, report_body};

@@ -2,16 +2,16 @@
 ghost use Rattle.std.specs.Prelude.{◌≡◌, ◌≤◌, ◌^◌, ◌==◌, List, ℕ, length, reverse, map, is_some, IsSome, IfSome, IfOk};
 ghost use Rattle.std.specs.List.{list_any};
 ghost use Rattle.hk_base.specs.TailoringParts.{TailoringParts};
-ghost use Rattle.hk_base.specs.Outcomes.{Gives, Finds};
-ghost use Rattle.hk_base.specs.Reading.{reader, param_fault};
+ghost use Rattle.body_fields.specs.Outcomes.{Gives, Finds};
+ghost use Rattle.body_fields.specs.Reading.{reader, param_fault};
 ghost use Rattle.st20_grammar.specs.Bodies.{request_table, report_table, request_body, report_body, setting_field, settable_fault, sensed_fault, id_fault, report_request, set_request, value_report};
 ghost use Rattle.st20_grammar.specs.Spelling.{ids_of};
 
 use crate::bodies::{Report20, Request20, Setting};
-use hk_base::body::{
-    ParamIds, ReadMember, check_param, read_list, read_number, read_value_of, whole,
+use body_fields::{
+    BodyFault, ParamIds, ReadMember, check_param, read_list, read_number, read_value_of, whole,
 };
-use hk_base::{BodyFault, Tailoring};
+use hk_base::Tailoring;
 use std::alloc::Global;
 
 /// Whether requests have this subtype.

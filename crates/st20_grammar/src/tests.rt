@@ -2,7 +2,8 @@ use crate::{
     Report20, Request20, Setting, decode_report, decode_request, encode_report, encode_request,
     knows_report, knows_request,
 };
-use hk_base::{BUILTIN_WIDTHS, BodyFault, Form, Items, Memory, Param, Tailoring, Widths, builtin};
+use body_fields::BodyFault;
+use hk_base::{BUILTIN_WIDTHS, Form, Items, Memory, Param, Tailoring, Widths, builtin};
 use std::alloc::Global;
 use std::test::Fail;
 

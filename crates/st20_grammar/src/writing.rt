@@ -3,7 +3,7 @@ ghost use Rattle.std.specs.Prelude.{◌≡◌, ◌++◌, IfOk, OnErr};
 ghost use Rattle.st20_grammar.specs.Spelling.{IsRequest, IsReport, IsSetting, request_subtype, request_octets, report_subtype, report_octets, setting_octets};
 
 use crate::bodies::{Report20, Request20, Setting};
-use hk_base::body::{ParamIds, WriteMember, write_known_id, write_list, write_value_of};
+use body_fields::{ParamIds, WriteMember, write_known_id, write_list, write_value_of};
 use hk_base::{Memory, Tailoring};
 
 /// Appends the body of a request, and answers its subtype. An error leaves `out` as it was.

@@ -1,6 +1,6 @@
 use Rattle.std.proofs.Common.{arith}
 use Rattle.std.proofs.lemmas.Result.{IfOk-weaker}
-use Rattle.hk_base.proofs.BodyLemmas.{read_is, octets_below}
+use Rattle.body_fields.proofs.BodyLemmas.{read_is, octets_below}
 use Rattle.st01_reports.specs.Bodies.{report_table}
 use Rattle.st01_reports.proofs.TakenBodies.{report-took}
 use Rattle.st01_reports.proofs.reading.decode.Goals as goal

@@ -1,6 +1,6 @@
 use Rattle.std.proofs.Common.{arith}
 use Rattle.std.proofs.lemmas.Result.{IfOk-weaker}
-use Rattle.hk_base.proofs.BodyLemmas.{read_is, octets_below}
+use Rattle.body_fields.proofs.BodyLemmas.{read_is, octets_below}
 use Rattle.st03_grammar.specs.Bodies.{report_table}
 use Rattle.st03_grammar.proofs.TakenBodies.{report-took}
 use Rattle.st03_grammar.proofs.reports.decode_report.Goals as goal

@@ -2,11 +2,11 @@ use Rattle.std.proofs.Common.{arith, ◌≡◌, ℕ, List, true, Result}
 use Rattle.std.specs.Prelude.{is_some, IfSome, IfOk}
 use Rattle.std.proofs.lemmas.Result.{IfOk-weaker}
 use Rattle.hk_base.specs.TailoringParts.{TailoringParts}
-use Rattle.hk_base.specs.Outcomes.{Gives}
-use Rattle.hk_base.specs.Reading.{reader}
-use Rattle.hk_base.specs.Spelling.{AreOctets}
-use Rattle.hk_base.specs.declared.types.BodyFault.{BodyFault}
-use Rattle.hk_base.proofs.BodyLemmas.{read_is, octets_below}
+use Rattle.body_fields.specs.Outcomes.{Gives}
+use Rattle.body_fields.specs.Reading.{reader}
+use Rattle.body_fields.specs.Spelling.{AreOctets}
+use Rattle.body_fields.specs.declared.fault.BodyFault.{BodyFault}
+use Rattle.body_fields.proofs.BodyLemmas.{read_is, octets_below}
 use Rattle.st03_grammar.specs.Bodies.{request_table, request_body}
 use Rattle.st03_grammar.specs.Spelling.{IsSpelledRequest}
 use Rattle.st03_grammar.specs.declared.bodies.Request03.{Request03}

@@ -1,7 +1,7 @@
 use Rattle.std.proofs.Common.{◌≡◌, ◌++◌, List, sym, subst}
 use Rattle.std.specs.Prelude.{OnOk}
 use Rattle.std.specs.List.{AllByRecursion}
-use Rattle.hk_base.specs.Spelling.{counted_octets, time_octets}
+use Rattle.body_fields.specs.Spelling.{counted_octets, time_octets}
 use Rattle.st04_grammar.specs.Spelling.{IsKnownRow, row_octets}
 use Rattle.st04_grammar.specs.declared.bodies.StatRow.{StatRow}
 use Rattle.st04_grammar.proofs.SpellingLemmas.{rows_known}

@@ -1,7 +1,7 @@
 use Rattle.std.proofs.Common.{◌≡◌, lit≤, lit<, refl, sym, subst, List, [], ◌∷◌, pos}
 use Rattle.hk_base.specs.TailoringParts.{TailoringParts}
 use Rattle.hk_base.specs.Builtin.{builtin}
-use Rattle.hk_base.specs.Reading.{param_fault}
+use Rattle.body_fields.specs.Reading.{param_fault}
 use Rattle.st20_grammar.specs.Spelling.{AreSettings}
 use Rattle.st20_grammar.specs.declared.bodies.Setting.{Setting}
 use Rattle.st20_grammar.proofs.tests.written_report.Goals as goal

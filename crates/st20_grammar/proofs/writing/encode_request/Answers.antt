@@ -2,8 +2,8 @@ use Rattle.std.proofs.Common.{ℕ, List, [], sym, subst}
 use Rattle.std.specs.Prelude.{IsSome}
 use Rattle.std.specs.List.{AllByRecursion}
 use Rattle.hk_base.specs.Parameters.{parameter}
-use Rattle.hk_base.specs.Reading.{param_fault}
-use Rattle.hk_base.proofs.NamedLemmas.{ids_known}
+use Rattle.body_fields.specs.Reading.{param_fault}
+use Rattle.body_fields.proofs.NamedLemmas.{ids_known}
 use Rattle.st20_grammar.specs.Bodies.{settable_fault}
 use Rattle.st20_grammar.specs.Spelling.{AreIds, AreSettings, IsRequest, IsSetting}
 use Rattle.st20_grammar.specs.declared.bodies.Setting.{Setting}

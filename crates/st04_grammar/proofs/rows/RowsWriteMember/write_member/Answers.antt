@@ -3,7 +3,7 @@ use Rattle.std.specs.Prelude.{OnOk}
 use Rattle.std.specs.Int.{w128}
 use Rattle.std.proofs.lemmas.Int.{to_z-of_z}
 use Rattle.hk_base.specs.Fields.{octets_of}
-use Rattle.hk_base.specs.Spelling.{param_octets, time_octets, value_octets, mean_octets}
+use Rattle.body_fields.specs.Spelling.{param_octets, time_octets, value_octets, mean_octets}
 use Rattle.st04_grammar.proofs.WritingLemmas.{last_part, earlier_part}
 use Rattle.st04_grammar.proofs.rows.RowsWriteMember.write_member.Goals as goal
 

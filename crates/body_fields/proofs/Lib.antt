@@ -1,0 +1,10 @@
+pub mod ReadLemmas
+pub mod ReadingLemmas
+pub mod ValueLemmas
+pub mod ListReading
+pub mod WritingLemmas
+pub mod TakingLemmas
+pub mod IntervalLemmas
+pub mod FitLemmas
+pub mod NamedLemmas
+pub mod BodyLemmas

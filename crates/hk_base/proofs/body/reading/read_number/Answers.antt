@@ -1,6 +1,0 @@
-use Rattle.std.proofs.Common.{arith}
-use Rattle.std.proofs.Math.Nat.{pow-le-pow_right}
-use Rattle.hk_base.proofs.body.reading.read_number.Goals as goal
-
-pub overflow_cast-result : goal.overflow_cast-result
-overflow_cast-result c = omega (arith, c.in_ok-number.ensures.fits, pow-le-pow_right {n = 256} (omega arith) {i = c.args.width} {j = 4} c.requires.1)

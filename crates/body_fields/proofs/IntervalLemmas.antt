@@ -1,5 +1,5 @@
 -- Intervals are read from their spelling, and from no other octets.
-use Rattle.std.proofs.Common.{arith, ◌≡◌, refl, sym, ℕ, ◌^◌, ◌<◌, List, Bool, true, false, None}
+use Rattle.std.proofs.Common.{arith, ◌≡◌, refl, sym, ℕ, List, Bool, true, false, None}
 use Rattle.std.specs.Prelude.{◌==◌, nat_lt}
 use Rattle.std.specs.Option.{option_or}
 use Rattle.std.proofs.lemmas.Option.{none-some}

@@ -1,6 +1,6 @@
 -- Statistics requests and reports are read from their spelling, and from no other octets.
-use Rattle.std.proofs.Common.{arith, ◌≡◌, refl, sym, ap, subst, ◌∙◌, ℕ, ◌+◌, ◌^◌, ◌<◌, ◌≤◌, List, [], ◌∷◌, ◌++◌, length, Bool, true, false, Option, Some, None, Ok, Err}
-use Rattle.std.specs.Prelude.{ℤ, ◌==◌, nat_lt, IfSome, IsSome, is_some}
+use Rattle.std.proofs.Common.{arith, ◌≡◌, refl, sym, ap, subst, ◌∙◌, ℕ, ◌+◌, ◌^◌, ◌<◌, ◌≤◌, List, [], ◌∷◌, ◌++◌, length, Bool, false, Option, Some, None, Ok, Err}
+use Rattle.std.specs.Prelude.{ℤ, ◌==◌, IfSome, IsSome, is_some}
 use Rattle.std.specs.List.{AllByRecursion}
 use Rattle.std.specs.Option.{option_or, option_map_or}
 use Rattle.std.proofs.lemmas.Option.{none-some}
@@ -13,7 +13,7 @@ use Rattle.body_fields.specs.Reading.{Read, then_read, fault_if, octets_field, u
 use Rattle.body_fields.specs.Spelling.{Reads, AllRead, AllStand, AllAmong, AreOctets, IsCount, IsInOctets, IsInterval, IsValueOf, counted_octets, param_octets, interval_octets, flag_octets, time_octets, value_octets, mean_octets}
 use Rattle.hk_base.specs.declared.types.Param.{Param}
 use Rattle.body_fields.specs.declared.fault.BodyFault.{BodyFault}
-use Rattle.body_fields.specs.declared.fault.BodyFault.TheVariants.{ZeroCount, UnknownParam, ZeroInterval, LongInterval}
+use Rattle.body_fields.specs.declared.fault.BodyFault.TheVariants.{ZeroCount, UnknownParam}
 use Rattle.body_fields.proofs.ReadingLemmas.{reads-then, reads-map, reads-check, reads-uint, reads-flag, reads-counted, whole-reads}
 use Rattle.body_fields.proofs.ValueLemmas.{reads-field, length-value, value-again}
 use Rattle.body_fields.proofs.FitLemmas.{param_known, param_in_octets}

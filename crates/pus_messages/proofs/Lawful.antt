@@ -4,7 +4,7 @@ use Rattle.std.specs.Prelude.{take, drop, not, option_map, IfSome, if◌then◌e
 use Rattle.std.specs.Option.{option_or}
 use Rattle.std.specs.Result.{result_ok}
 use Rattle.hk_base.specs.Fields.{number_of}
-use Rattle.hk_base.specs.declared.types.BodyFault.{BodyFault}
+use Rattle.body_fields.specs.declared.fault.BodyFault.{BodyFault}
 use Rattle.std.proofs.lemmas.Bool.{not-true, ltb-true, ltb-false, eqb-true}
 use Rattle.std.proofs.lemmas.Bool.Decides.{nat_tests}
 use Rattle.hk_base.specs.TailoringParts.{TailoringParts}

@@ -3,8 +3,8 @@ use Rattle.std.proofs.Common.{◌≡◌, ℕ, subst, List, Bool, true, false, �
 use Rattle.std.specs.Prelude.{⊤, if◌then◌else◌}
 use Rattle.std.specs.Result.{result_map_both}
 use Rattle.hk_base.specs.TailoringParts.{TailoringParts}
-use Rattle.hk_base.specs.declared.types.BodyFault.{BodyFault}
-use Rattle.hk_base.proofs.ReadLemmas.{IsOkSo, IsSomeSo}
+use Rattle.body_fields.specs.declared.fault.BodyFault.{BodyFault}
+use Rattle.body_fields.proofs.ReadLemmas.{IsOkSo, IsSomeSo}
 use Rattle.pus_packet.specs.Packets.{split_command}
 use Rattle.pus_packet.specs.declared.header.TcHeader.{TcHeader}
 use Rattle.pus_packet.specs.declared.header.PacketFault.{PacketFault}

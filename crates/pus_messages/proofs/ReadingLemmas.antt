@@ -4,10 +4,10 @@ use Rattle.std.specs.Prelude.{is_some, IfSome, option_map}
 use Rattle.std.specs.Result.{result_map_both}
 use Rattle.std.proofs.lemmas.Bool.{both_ways}
 use Rattle.hk_base.specs.TailoringParts.{TailoringParts}
-use Rattle.hk_base.specs.Outcomes as bodies
-use Rattle.hk_base.specs.Reading.{Read, whole_body, reader, body_of}
-use Rattle.hk_base.specs.declared.types.BodyFault.{BodyFault}
-use Rattle.hk_base.specs.declared.types.BodyFault.TheVariants as body
+use Rattle.body_fields.specs.Outcomes as bodies
+use Rattle.body_fields.specs.Reading.{Read, whole_body, reader, body_of}
+use Rattle.body_fields.specs.declared.fault.BodyFault.{BodyFault}
+use Rattle.body_fields.specs.declared.fault.BodyFault.TheVariants as body
 use Rattle.pus_packet.specs.Packets.{split_command, split_report}
 use Rattle.pus_packet.specs.declared.header.TcHeader.{TcHeader}
 use Rattle.pus_packet.specs.declared.header.TmHeader.{TmHeader}

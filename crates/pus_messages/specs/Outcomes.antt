@@ -1,7 +1,7 @@
 -- What the calls on messages answer, against what the definitions give. Want of memory alone is free.
 use Rattle.std.specs.Prelude.{◌≡◌, ℕ, List, ◌<◌, ◌≤◌, ⊤, length, Option, Some, None, Result, Ok, Err}
-use Rattle.hk_base.specs.declared.types.BodyFault.{BodyFault}
-use Rattle.hk_base.specs.declared.types.BodyFault.TheVariants as body
+use Rattle.body_fields.specs.declared.fault.BodyFault.{BodyFault}
+use Rattle.body_fields.specs.declared.fault.BodyFault.TheVariants as body
 use Rattle.pus_packet.specs.Joining.{most_octets}
 use Rattle.pus_packet.specs.declared.header.JoinFault.{JoinFault}
 use Rattle.pus_packet.specs.declared.header.JoinFault.TheVariants as join

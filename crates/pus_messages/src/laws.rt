@@ -1,7 +1,7 @@
 ghost use Rattle.std.specs.Prelude.{◌≡◌, ◌↔◌, ℕ, List, Ok};
 ghost use Rattle.hk_base.specs.TailoringParts.{TailoringParts};
 ghost use Rattle.hk_base.specs.Fit.{IsFit};
-ghost use Rattle.hk_base.specs.Spelling.{AreOctets};
+ghost use Rattle.body_fields.specs.Spelling.{AreOctets};
 ghost use Rattle.pus_messages.specs.declared.message.Request.{Request};
 ghost use Rattle.pus_messages.specs.declared.message.Report.{Report};
 ghost use Rattle.pus_messages.specs.Protocol.{IsLawful};

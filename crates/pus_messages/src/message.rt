@@ -1,4 +1,4 @@
-use hk_base::BodyFault;
+use body_fields::BodyFault;
 use pus_packet::{PacketFault, TcHeader, TmHeader};
 use st01_reports::Verification;
 use st03_grammar::{Report03, Request03};

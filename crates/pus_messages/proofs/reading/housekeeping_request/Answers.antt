@@ -1,7 +1,7 @@
 use Rattle.std.proofs.Common.{◌≡◌, ◌∙◌, sym, true}
 use Rattle.std.specs.Prelude.{is_some}
 use Rattle.std.proofs.lemmas.Result.{err_from_is_err_and}
-use Rattle.hk_base.specs.Reading.{reader}
+use Rattle.body_fields.specs.Reading.{reader}
 use Rattle.st03_grammar.specs.Bodies.{request_table}
 use Rattle.pus_messages.specs.declared.message.RequestBody.TheVariants as ask
 use Rattle.pus_messages.proofs.ReadingLemmas.{body-failed}

@@ -142,9 +142,9 @@ totals-more samples t u v x h e f =
       min = λ i. subst (λ w. IsFirstLeast (samples ++ x ∷ []) (least_of w)) (sym f) least;
     }
 
-pub floor-is : (n : ℤ) (d : ℕ) → int_div_euclid n (pos d) ≡ floor_div n d
-floor-is (pos n) d = refl
-floor-is (negsuc n) d = refl
+pub floor_is : (n : ℤ) (d : ℕ) → int_div_euclid n (pos d) ≡ floor_div n d
+floor_is (pos n) d = refl
+floor_is (negsuc n) d = refl
 
 pub sum-few : (count : ℕ) (sum : ℤ) → count < 2 ^ 32 → IsBounded count sum → unsigned_abs sum ≤ 79228162514264337593543950336
 sum-few count (pos n) h b = omega (arith, ints, b.greatest)

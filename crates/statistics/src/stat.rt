@@ -1,5 +1,6 @@
 //! Running totals of samples.
 ghost use Rattle.std.specs.Prelude.{◌≡◌, ◌≤◌, ◌<◌, ◌↔◌, ◌+◌, ◌^◌, ◌++◌, ◌∷◌, [], List, ℤ, pos, IsErr, IfOk, OnOk, OnErr};
+ghost use Rattle.statistics.specs.Summaries as summaries;
 ghost use Rattle.statistics.specs.Summaries.{Sample, sample, Totals, AreTotals, IsSummary, IsSampleValue, IsBounded, mean_of_sum, with_max, with_min, with_value};
 
 use crate::summary::Summary;
@@ -137,7 +138,16 @@ fn mean(sum: i128, count: u32, fraction: u8) -> Value
     requires fraction { fraction ≤ 2 }
     ensures { result ≡ mean_of_sum fraction sum count }
 {
-    (sum * scale_of(fraction)).div_euclid(i128::from(count))
+    floor_div(sum * scale_of(fraction), count)
+}
+
+/// A quotient, rounded toward minus infinity.
+#[tactic(auto, using(crate::proofs::TotalsLemmas::floor_is))]
+fn floor_div(number: i128, divisor: u32) -> i128
+    requires { 1 ≤ divisor }
+    ensures { result ≡ summaries.floor_div number divisor }
+{
+    number.div_euclid(i128::from(divisor))
 }
 
 /// The number of units of 256^-fraction in one.

@@ -1,4 +1,4 @@
-use Rattle.std.proofs.Common.{arith, ◌≤◌, ◌≡◌, ◌∙◌, ap, subst, sym, ◌^◌, ◌*ℤ◌, pos, FitsSigned, rules}
+use Rattle.std.proofs.Common.{arith, ◌≤◌, ◌≡◌, ◌∙◌, ap, subst, sym, ◌*ℤ◌, FitsSigned, rules}
 use Rattle.std.specs.Int.{w128}
 use Rattle.std.specs.Prelude.{unsigned_abs}
 use Rattle.std.proofs.lemmas.Int.{to_z-of_z, fits_signed_mul}
@@ -6,7 +6,7 @@ use Rattle.statistics.specs.Summaries.{floor_div}
 use Rattle.statistics.proofs.TotalsLemmas.{sum-few}
 use Rattle.statistics.proofs.stat.mean.Goals as goal
 
-pub overflow_mul-sum : goal.overflow_mul-result
+pub overflow_mul-sum : goal.overflow_mul-sum
 overflow_mul-sum c =
     let sum_fits = c.ranges.sum in
     let scale_fits : FitsSigned w128 c.scale_of.result = search rules in

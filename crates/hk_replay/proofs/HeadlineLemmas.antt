@@ -12,12 +12,14 @@ use Rattle.hk_base.proofs.Membership.{AllByRecursion-append}
 use Rattle.session_record.specs.Records.{header_of}
 use Rattle.session_record.specs.declared.entry.Entry.{Entry}
 use Rattle.session_record.specs.declared.entry.Entry.TheVariants.{Sent, Got, Line}
+use Rattle.pus_messages.specs.Messages.{protocol}
 use Rattle.hk_world.specs.Timelines.{EachAfter, tailoring}
 use Rattle.hk_world.specs.Honest.{IsFiled}
 use Rattle.hk_world.specs.Worlds as worlds
-use Rattle.hk_world.specs.Worlds.{World, Step, IsWorld, IsSession, IsDelivered, moments_of, deliveries_of, entries_seen}
+use Rattle.hk_world.specs.Worlds.{World, Step, IsWorld, moments_of, deliveries_of, entries_seen}
+use Rattle.hk_world.specs.Undisturbed.{housekeeping, IsUndisturbed, IsUndisturbedStep, IsDeliveredReport}
 use Rattle.hk_world.specs.declared.moment.Moment.{Moment}
-use Rattle.hk_world.proofs.WorldLemmas.{delivered_reports}
+use Rattle.hk_world.proofs.UndisturbedLemmas.{delivered_reports, structures_unchanged, structures_reported}
 use Rattle.hk_replay.specs.Blocks.{Block, block_lines, rows_of, packet_block}
 use Rattle.hk_replay.specs.Transcripts.{Lines, Outcome, written, no_lines, with_block, with_entry, with_entries, ended, outcome_from, replay_outcome}
 use Rattle.hk_replay.specs.Words.{Command, replay, check, trim}
@@ -35,13 +37,21 @@ pub record IsTold (w : World) (m : Moment) : Type 0 where
   pub block_is : packet_block (tailoring w.session) m.packet ≡ Some block
   pub is_true : IsTrueBlock w m block
 
+-- The worlds of the first path: the packets are those of the protocol of a tailoring, and nothing is commanded.
+pub record IsHeard (w : World) : Type 0 where
+  pub world : IsWorld w
+  pub spoken : w.session.protocol ≡ protocol (tailoring w.session)
+  pub undisturbed : IsUndisturbed w
+
 -- what was delivered is told
-told : (w : World) → IsWorld w → (m : Moment) → IsDelivered w.session (moments_of w.steps) m → IsTold w m
-told w world m d =
+told : (w : World) → IsHeard w → (m : Moment) → IsDeliveredReport w.session (moments_of w.steps) m → IsTold w m
+told w heard m d =
     let s = w.session in
     let id = d.report.0 in
     let payload = d.report.1 in
-    let r = report_is_read s d.earlier m id payload world.session d.report.2 d.report.3 in
+    let unchanged = λ key. structures_reported w heard.world heard.undisturbed d.later d.earlier key d.before in
+    let r = report_is_read s d.earlier m id payload heard.world.session.fit heard.spoken unchanged d.report.2 d.report.3 in
+    let in_force = structures_unchanged w heard.world heard.undisturbed m.tag (housekeeping r.id) ∙ r.booted in
     let ps = places r.structure.def (slot_of (tailoring s) m.tag - 1) in
     record {
       low = d.low;
@@ -50,7 +60,7 @@ told w world m d =
       is_true = record {
         tag = refl;
         structure = r.structure;
-        in_force = r.booted;
+        in_force = in_force;
         rows = map-zip ps r.values (IsFiled d.earlier) r.samples;
         values = λ row place value e.
             let x = row-zip (IsFiled d.earlier) ps r.values row place value r.samples e in
@@ -58,7 +68,7 @@ told w world m d =
               payload = r.payload;
               structure = r.structure;
               reported = (d.number, m, d.made, refl, r.report);
-              in_force = r.booted;
+              in_force = in_force;
               interval_is = refl;
               place = x.at;
               sample = subst (λ ms. IsFiled ms place value) (sym d.before) (filed_later d.later d.earlier place value x.is);
@@ -149,18 +159,20 @@ true_lines w before ((o, Got p) ∷ es) (m ∷ ms) all rises e =
       each = (all.0.is_true, rest.each);
     }
 
-each_told : (w : World) → IsWorld w → (ms : List Moment) → AllByRecursion (IsDelivered w.session (moments_of w.steps)) ms → AllByRecursion (IsTold w) ms
-each_told w world [] all = tt
-each_told w world (m ∷ ms) all = (told w world m all.0, each_told w world ms all.1)
+each_told : (w : World) → IsHeard w → (ms : List Moment) → AllByRecursion (IsDeliveredReport w.session (moments_of w.steps)) ms → AllByRecursion (IsTold w) ms
+each_told w heard [] all = tt
+each_told w heard (m ∷ ms) all = (told w heard m all.0, each_told w heard ms all.1)
 
 each_low : (w : World) (ms : List Moment) → AllByRecursion (IsTold w) ms → AllByRecursion (λ m. 1 ≤ m.tag) ms
 each_low w [] all = tt
 each_low w (m ∷ ms) all = (all.0.low, each_low w ms all.1)
 
-seen_packets : (steps : List Step) → entries_seen steps ≡ got_packets (deliveries_of steps)
-seen_packets [] = refl
-seen_packets (worlds.happen m ∷ steps) = seen_packets steps
-seen_packets (worlds.deliver m ∷ steps) = ap (λ xs. worlds.got m.packet ∷ xs) (seen_packets steps)
+seen_packets : (w : World) (steps : List Step) → AllByRecursion (IsUndisturbedStep w.session) steps → entries_seen w.session.requests steps ≡ got_packets (deliveries_of steps)
+seen_packets w [] all = refl
+seen_packets w (worlds.send k ∷ steps) all = absurd all.0
+seen_packets w (worlds.happen m ∷ steps) all = seen_packets w steps all.1
+seen_packets w (worlds.deliver m ∷ steps) all = ap (λ xs. worlds.got m.packet ∷ xs) (seen_packets w steps all.1)
+seen_packets w (worlds.stray packet ∷ steps) all = absurd all.0
 
 reverse-packets : (ms : List Moment) → reverse (got_packets ms) ≡ got_packets (reverse ms)
 reverse-packets [] = refl
@@ -175,14 +187,14 @@ pub record IsTrueOutcome (w : World) (o : Outcome) : Type 0 where
   pub is_true : IsTrueText w text
   pub outcome_is : o ≡ written text
 
-true_outcome : (w : World) (octets : List ℕ) → IsWorld w → IsRecordOf w octets → IsTrueOutcome w (replay_outcome (tailoring w.session) octets)
+true_outcome : (w : World) (octets : List ℕ) → IsHeard w → IsRecordOf w octets → IsTrueOutcome w (replay_outcome (tailoring w.session) octets)
 unfolding replay_outcome
-true_outcome w octets world is =
+true_outcome w octets heard is =
     let t = tailoring w.session in
-    let reports = delivered_reports w.session w.steps world.steps in
-    let all = each_told w world (deliveries_of w.steps) reports.each in
+    let reports = delivered_reports w heard.world heard.undisturbed in
+    let all = each_told w heard (deliveries_of w.steps) reports.each in
     let rises = rises-reverse (deliveries_of w.steps) reports.order (each_low w (deliveries_of w.steps) all) in
-    let entries = is.seen_are ∙ (ap reverse (seen_packets w.steps) ∙ reverse-packets (deliveries_of w.steps)) in
+    let entries = is.seen_are ∙ (ap reverse (seen_packets w w.steps heard.undisturbed.steps) ∙ reverse-packets (deliveries_of w.steps)) in
     let lines = true_lines w no_lines is.entries (delivered w) (told-reverse w (deliveries_of w.steps) all) rises entries in
     record {
       text = lines.after.text;
@@ -201,10 +213,10 @@ true_run_by w NoMemory text before after is h = (text, is, h)
 true_run_by w NotBuilt text before after is h = h.0
 
 -- what a run on the record of a world writes is true
-pub true_run : (w : World) (octets : List ℕ) (status : ReplayStatus) (t : TailoringParts) (before after : Option (List ℕ)) → IsWorld w → tailoring w.session ≡ t → IsRecordOf w octets
+pub true_run : (w : World) (octets : List ℕ) (status : ReplayStatus) (t : TailoringParts) (before after : Option (List ℕ)) → IsHeard w → tailoring w.session ≡ t → IsRecordOf w octets
     → HasOutput status (replay_outcome t octets) before after → IsTrueRun w status before after
-true_run w octets status t before after world same is h =
-    let o = true_outcome w octets world is in
+true_run w octets status t before after heard same is h =
+    let o = true_outcome w octets heard is in
     true_run_by w status o.text before after o.is_true
     (subst (λ x. HasOutput status x before after) o.outcome_is (subst (λ p. HasOutput status (replay_outcome p octets) before after) (sym same) h))
 
@@ -219,6 +231,6 @@ replay_tells (Some (replay tailoring name)) files t octets r = (Ok t, r.0, ap (o
 -- what a run writes is true of the world whose record it replays
 pub true_words : (command : Option Command) (files : Option (List (List ℕ × List ℕ))) (status : ReplayStatus) (before after : Option (List ℕ))
     → ((outcome : Outcome) → TellsOf files command outcome → HasOutput status outcome before after)
-    → (w : World) → IsWorld w → (octets : List ℕ) → Replays files command (tailoring w.session) octets → IsRecordOf w octets → IsTrueRun w status before after
-true_words command files status before after told w world octets r is =
-    true_run w octets status (tailoring w.session) before after world refl is (told (replay_outcome (tailoring w.session) octets) (replay_tells command files (tailoring w.session) octets r))
+    → (w : World) → IsWorld w → w.session.protocol ≡ protocol (tailoring w.session) → IsUndisturbed w → (octets : List ℕ) → Replays files command (tailoring w.session) octets → IsRecordOf w octets → IsTrueRun w status before after
+true_words command files status before after told w world spoken undisturbed octets r is =
+    true_run w octets status (tailoring w.session) before after (record { world = world; spoken = spoken; undisturbed = undisturbed }) refl is (told (replay_outcome (tailoring w.session) octets) (replay_tells command files (tailoring w.session) octets r))

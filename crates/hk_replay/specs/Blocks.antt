@@ -1,8 +1,7 @@
 -- The lines that are written for a report.
-use Rattle.std.specs.Prelude.{ℕ, ◌-◌, ℤ, Bool, List, [], ◌∷◌, ◌++◌, flat_map, zip, codes, Option, Some, None, Result, Ok, Err, ◌==◌, ◌&&◌, nat_le, nat_lt, length, take, drop, if◌then◌else◌}
+use Rattle.std.specs.Prelude.{ℕ, ⊤, ◌-◌, ◌≤◌, ◌^◌, ℤ, List, length, [], ◌∷◌, ◌++◌, flat_map, zip, codes, Option, Some, None, Result, Ok, Err, nat_le, if◌then◌else◌}
 use Rattle.std.specs.Fmt.{decimal, signed_decimal}
 use Rattle.hk_base.specs.TailoringParts.{TailoringParts}
-use Rattle.hk_base.specs.Fields.{number_of}
 use Rattle.hk_base.specs.Fit.{slot_of}
 use Rattle.hk_base.specs.Parameters.{boot_structure}
 use Rattle.hk_base.specs.Payload.{places, payload_read}
@@ -10,10 +9,15 @@ use Rattle.hk_base.specs.declared.types.Place.{Place}
 use Rattle.hk_base.specs.declared.types.Definition.{Definition}
 use Rattle.hk_base.specs.declared.types.Structure.{Structure}
 use Rattle.hk_base.specs.declared.types.PayloadFault.{PayloadFault}
-use Rattle.hk_world.specs.Honest.{housekeeping}
-use Rattle.pus_packet.specs.Packets.{split_report}
-use Rattle.pus_packet.specs.declared.header.PacketFault.{PacketFault}
-use Rattle.pus_packet.specs.declared.header.TmHeader.{TmHeader}
+use Rattle.hk_base.specs.declared.types.Key.{Key}
+use Rattle.hk_base.specs.declared.types.Kind.{Kind}
+use Rattle.hk_base.specs.declared.types.Kind.TheVariants.{Housekeeping, Diagnostic}
+use Rattle.st03_grammar.specs.declared.bodies.Report03.TheVariants as hk
+use Rattle.pus_messages.specs.Messages.{reception}
+use Rattle.pus_messages.specs.Protocol.{Reception, readable}
+use Rattle.pus_messages.specs.declared.message.ReportBody.{ReportBody}
+use Rattle.pus_messages.specs.declared.message.ReportBody.TheVariants.{Hk}
+use Rattle.hk_world.specs.Undisturbed.{housekeeping}
 
 -- A report that is decided: the ID of its housekeeping structure, its tag, the interval of the definition in force, and each value with its place.
 pub record Block : Type 0 where
@@ -59,22 +63,30 @@ structure_block t id tag payload None = None
 structure_block t id tag payload (Some x) =
     if nat_le x.def.interval (slot_of t tag) then block_by t id tag x.def (payload_read t x.def payload) else None
 
--- the block of a report with this body: a structure ID, and the payload to the end
-abbrev pub body_block : TailoringParts → ℕ → List ℕ → Option Block
-body_block t tag body =
-    let width = t.widths.structure_octets in
-    let id = number_of (take width body) in
-    if nat_lt (length body) width then None else structure_block t id tag (drop width body) (boot_structure t (housekeeping id))
+-- the same by the kind of the structure
+abbrev pub kind_block : TailoringParts → ℕ → Kind → ℕ → List ℕ → Option Block
+kind_block t tag Housekeeping id payload = structure_block t id tag payload (boot_structure t (housekeeping id))
+kind_block t tag Diagnostic id payload = None
 
--- whether a header is of a housekeeping parameter report of the process
-abbrev pub is_parameter_report : TailoringParts → TmHeader → Bool
-is_parameter_report t h = h.apid == t.widths.apid && (h.service == 3 && h.subtype == 25)
+-- the block of a parameter report with this tag, where it is of a housekeeping structure that the board has from its start
+abbrev pub values_block : TailoringParts → ℕ → Key → List ℕ → Option Block
+values_block t tag key payload = kind_block t tag key.kind key.id payload
 
--- the block of a packet that was split
-abbrev pub split_block : TailoringParts → Result (TmHeader × List ℕ) PacketFault → Option Block
-split_block t (Err fault) = None
-split_block t (Ok parts) = if is_parameter_report t parts.0 then body_block t parts.0.tag parts.1 else None
+-- the block of a report with this tag and body
+abbrev pub body_block : TailoringParts → ℕ → ReportBody → Option Block
+body_block t tag (Hk (hk.Values key payload)) = values_block t tag key payload
+body_block t tag _ = None
+
+-- the payload of a parameter report isn't longer than a slice may be
+abbrev pub IsSmall : ReportBody → Type 0
+IsSmall (Hk (hk.Values key payload)) = length payload ≤ 2 ^ 31
+IsSmall _ = ⊤
+
+-- the block of what was received
+abbrev pub reception_block : TailoringParts → Reception → Option Block
+reception_block t (readable r) = body_block t r.header.tag r.body
+reception_block t _ = None
 
 -- the block of a packet: of a housekeeping parameter report of a structure that the board has from its start
 unfoldable pub packet_block : TailoringParts → List ℕ → Option Block
-packet_block t packet = split_block t (split_report t packet)
+packet_block t packet = reception_block t (reception t packet)

@@ -6,7 +6,7 @@ use Rattle.hk_base.specs.Payload.{places}
 use Rattle.hk_base.specs.declared.types.Place.{Place}
 use Rattle.hk_base.specs.declared.types.Structure.{Structure}
 use Rattle.hk_world.specs.Timelines.{tailoring}
-use Rattle.hk_world.specs.Honest.{housekeeping}
+use Rattle.hk_world.specs.Undisturbed.{housekeeping}
 use Rattle.hk_world.specs.Worlds as worlds
 use Rattle.hk_world.specs.Worlds.{World, IsTrueValue, deliveries_of, entries_seen, world_state_at}
 use Rattle.hk_world.specs.declared.moment.Moment.{Moment}
@@ -28,7 +28,7 @@ seen (Line text) = None
 pub record IsRecordOf (w : World) (octets : List ℕ) : Type 0 where
   pub entries : List (ℕ × Entry)
   pub record_is : read_record octets ≡ Ok (header_of true false, record { list = entries; fault = None })
-  pub seen_are : filter_map (λ x. seen x.1) entries ≡ reverse (entries_seen w.steps)
+  pub seen_are : filter_map (λ x. seen x.1) entries ≡ reverse (entries_seen w.session.requests w.steps)
 
 -- the moments whose packets were delivered, in the order in which they came
 abbrev pub delivered : World → List Moment
@@ -40,7 +40,7 @@ pub record IsTrueBlock (w : World) (m : Moment) (b : Block) : Type 0 where
   pub structure : Structure
   pub in_force : (world_state_at w b.tag).structure (housekeeping b.id) ≡ Some structure
   pub rows : map (λ r. r.0) b.rows ≡ places structure.def (slot_of (tailoring w.session) b.tag - 1)
-  pub values : (row : ℕ) (place : Place) (value : ℤ) → slice_get b.rows row ≡ Some (place, value) → IsTrueValue w b.id b.tag b.interval row place.param place.slot value
+  pub values : (row : ℕ) (place : Place) (value : ℤ) → slice_get b.rows row ≡ Some (place, value) → IsTrueValue w (housekeeping b.id) b.tag b.interval row place.param place.slot value
 
 -- a text of decided blocks, one for each report that was delivered, in their order, each of them true
 pub record IsTrueText (w : World) (text : List ℕ) : Type 0 where

@@ -4,8 +4,10 @@ ghost use Rattle.std.specs.String.{string_bytes};
 ghost use Rattle.hk_base.specs.Outside.{HasRisen};
 ghost use Rattle.hk_base.specs.TailoringParts.{TailoringParts};
 ghost use Rattle.hk_tailoring.specs.declared.fault.TailoringFault.{TailoringFault};
+ghost use Rattle.pus_messages.specs.Messages.{protocol};
 ghost use Rattle.hk_world.specs.Timelines.{tailoring};
 ghost use Rattle.hk_world.specs.Worlds.{World, IsWorld};
+ghost use Rattle.hk_world.specs.Undisturbed.{IsUndisturbed};
 ghost use Rattle.hk_replay.specs.Truth.{IsRecordOf, IsTrueRun};
 ghost use Rattle.hk_replay.specs.Words.{command_of};
 ghost use Rattle.hk_replay.specs.Asked.{asked, named};
@@ -42,9 +44,9 @@ pub fn replay_main<F: Shelf, K: Sink>(
     ensures sound { F.is_sound shelf.old → (outcome : Outcome) → TellsOf (F.files shelf.old) (command_of (map string_bytes words.now)) outcome → F.faults shelf.new ≡ F.faults shelf.old }
     ensures room { (outcome : Outcome) → TellsOf (F.files shelf.old) (command_of (map string_bytes words.now)) outcome → IfSome (K.room sink.old) (λ room. length (outcome_text outcome) ≤ room → K.faults sink.new ≡ K.faults sink.old) }
 
-    // The headline: on the record of a world, whatever of it was lost, each value that is written is the sample that the
+    // The headline: on the record of a world in which nothing is commanded, whatever of it was lost, each value that is written is the sample that the
     // board took for that parameter and slot under the definition in force, and each report that was delivered is decided.
-    ensures headline { (w : World) → IsWorld w → (octets : List ℕ) → Replays (F.files shelf.old) (command_of (map string_bytes words.now)) (tailoring w.session) octets → IsRecordOf w octets → IsTrueRun w result (K.taken sink.old) (K.taken sink.new) }
+    ensures headline { (w : World) → IsWorld w → w.session.protocol ≡ protocol (tailoring w.session) → IsUndisturbed w → (octets : List ℕ) → Replays (F.files shelf.old) (command_of (map string_bytes words.now)) (tailoring w.session) octets → IsRecordOf w octets → IsTrueRun w result (K.taken sink.old) (K.taken sink.new) }
 {
     run(alloc, words, shelf, sink)
 }

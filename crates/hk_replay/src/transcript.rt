@@ -2,16 +2,16 @@
 ghost use Rattle.std.specs.Prelude.{◌≡◌, ◌≤◌, ◌^◌, ◌+◌, Some, None, length, IfOk};
 ghost use Rattle.hk_base.specs.Payload.{IsValid};
 ghost use Rattle.session_record.specs.Records.{held_octets};
-ghost use Rattle.pus_packet.specs.Packets.{split_report};
-ghost use Rattle.hk_replay.specs.Blocks as blocks;
-ghost use Rattle.hk_replay.specs.Blocks.{packet_block, split_block, body_block, structure_block};
+ghost use Rattle.hk_replay.specs.Blocks.{IsSmall, packet_block, body_block, values_block, structure_block};
 ghost use Rattle.hk_replay.specs.Transcripts.{no_lines, with_block, with_entry};
 
 use crate::lines::{write_report, write_values};
-use hk_base::{Key, Kind, Memory, Structure, Tailoring, get_uint, slot_of};
-use pus_packet::{TmHeader, split_tm};
+use hk_base::{Key, Kind, Memory, Structure, Tailoring, slot_of};
+use pus_messages::{MessageFault, Report, ReportBody, read_report};
+use pus_packet::apid_of;
 use sample_slots::{PayloadFault, read_payload};
 use session_record::Entry;
+use st03_grammar::Report03;
 use std::alloc::Global;
 use std::marker::Model;
 
@@ -81,50 +81,59 @@ fn with_packet(
     requires { length packet.now ≤ 2 ^ 31 }
     ensures { IfOk result (λ after. after ≡ with_block before (packet_block tailoring.now packet.now)) }
 {
-    let Ok((header, body)) = split_tm(tailoring, packet) else {
-        return Ok(None);
-    };
-    if !is_parameter_report(tailoring, &header) {
+    let own = tailoring.widths().apid;
+    if apid_of(packet).is_some_and(|apid| apid != own) {
         return Ok(None);
     }
-    with_body(alloc, tailoring, before, header.tag, body)
+    match read_report(alloc, tailoring, packet) {
+        Ok(report) => with_report(alloc, tailoring, before, &report),
+        Err(MessageFault::Memory) => Err(Memory),
+        Err(_) => Ok(None),
+    }
 }
 
-/// Whether a header is of a housekeeping parameter report of the process.
-fn is_parameter_report(tailoring: &Tailoring, header: &TmHeader) -> bool
-    ensures { result ≡ blocks.is_parameter_report tailoring.now header.now }
-{
-    header.apid == tailoring.widths().apid && header.service == 3 && header.subtype == 25
-}
-
-/// The lines with those of a report with this body.
-fn with_body(
+/// The lines with those of a report.
+fn with_report(
     alloc: Global,
     tailoring: &Tailoring,
     before: Transcript,
-    tag: u64,
-    body: &[u8],
+    report: &Report,
 ) -> Result<Option<Transcript>, Memory>
-    requires { length body.now ≤ 2 ^ 31 }
-    ensures { IfOk result (λ after. after ≡ with_block before (body_block tailoring.now tag body.now)) }
+    requires { IsSmall report.now.body }
+    ensures { IfOk result (λ after. after ≡ with_block before (body_block tailoring.now report.now.header.tag report.now.body)) }
 {
-    let width = tailoring.widths().structure_octets;
-    let Ok(id) = get_uint(body, width) else {
+    let tag = report.header.tag;
+    match &report.body {
+        ReportBody::Hk(Report03::Values(key, payload)) => {
+            with_values(alloc, tailoring, before, *key, tag, payload.as_slice())
+        }
+        _ => Ok(None),
+    }
+}
+
+/// The lines with those of a parameter report.
+fn with_values(
+    alloc: Global,
+    tailoring: &Tailoring,
+    before: Transcript,
+    key: Key,
+    tag: u64,
+    payload: &[u8],
+) -> Result<Option<Transcript>, Memory>
+    requires { length payload.now ≤ 2 ^ 31 }
+    ensures { IfOk result (λ after. after ≡ with_block before (values_block tailoring.now tag key payload.now)) }
+{
+    if key.kind != Kind::Housekeeping {
         return Ok(None);
-    };
-    let key = Key {
-        kind: Kind::Housekeeping,
-        id: id as u32,
-    };
-    let (_, payload) = body.split_at(usize::from(width));
+    }
     match tailoring.boot(key) {
-        Some(structure) => with_report(alloc, tailoring, before, key.id, tag, structure, payload),
+        Some(structure) => with_boot(alloc, tailoring, before, key.id, tag, structure, payload),
         None => Ok(None),
     }
 }
 
-/// The lines with those of a report of this structure.
-fn with_report(
+/// The lines with those of a parameter report of this structure.
+fn with_boot(
     alloc: Global,
     tailoring: &Tailoring,
     before: Transcript,

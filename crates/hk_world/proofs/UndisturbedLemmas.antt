@@ -1,15 +1,19 @@
 -- What was delivered in a world in which nothing is commanded.
-use Rattle.std.proofs.Common.{◌≡◌, ◌≢◌, ℕ, zero, suc, List, [], ◌∷◌, Some, refl, sym, ◌∙◌, ap, subst}
-use Rattle.std.specs.Prelude.{slice_get}
-use Rattle.std.specs.List.{AllByRecursion}
+use Rattle.std.proofs.Common.{◌≡◌, ◌≢◌, ℕ, zero, suc, Bool, true, false, cond, List, [], ◌∷◌, ◌++◌, Some, None, refl, sym, ◌∙◌, ap, subst}
+use Rattle.std.specs.Prelude.{slice_get, filter, nat_lt}
+use Rattle.std.specs.List.{AllByRecursion, cons_option}
+use Rattle.hk_base.proofs.Membership.{AllByRecursion-parts}
+use Rattle.hk_base.specs.Parameters.{boot_structure}
+use Rattle.hk_base.specs.declared.types.Key.{Key}
+use Rattle.hk_world.specs.States.{BoardState}
 use Rattle.std.proofs.lemmas.Option.{same_Some, none-some}
 use Rattle.pus_messages.specs.Protocol.{Reception, readable}
 use Rattle.st03_grammar.specs.declared.bodies.Report03.TheVariants as hk
 use Rattle.pus_messages.specs.declared.message.ReportBody.{ReportBody}
 use Rattle.pus_messages.specs.declared.message.ReportBody.TheVariants.{Hk}
-use Rattle.hk_world.specs.Timelines.{EachAfter, Session}
+use Rattle.hk_world.specs.Timelines.{EachAfter, Session, tailoring, done_by, done_at, done_instructions, structure_after, state_after, moments_before}
 use Rattle.hk_world.specs.Honest.{IsReport, IsHonestBody, Carries}
-use Rattle.hk_world.specs.Worlds.{Step, send, happen, deliver, stray, World, IsWorld, IsDelivered, moments_of, deliveries_of}
+use Rattle.hk_world.specs.Worlds.{Step, send, happen, deliver, stray, World, IsWorld, IsSession, IsDelivered, moments_of, deliveries_of, world_state_at}
 use Rattle.hk_world.specs.Undisturbed.{housekeeping, IsUnasked, IsUndisturbedStep, IsUndisturbed, SendsReport, IsDeliveredReport, AreDeliveredReports}
 use Rattle.hk_world.specs.declared.moment.Moment.{Moment}
 use Rattle.hk_world.specs.declared.moment.Act.{Act}
@@ -73,3 +77,45 @@ delivered_reports w h u =
       each = each_report w.session (moments_of w.steps) (deliveries_of w.steps) (unasked_moments w.session w.steps u.steps) (each_delivered w.session w.steps h.steps);
       order = u.order;
     }
+
+-- nothing is done at an unasked moment
+unasked_does_nothing : (s : Session) (m : Moment) (tag : ℕ) (act : Act) → IsUnasked s m act → done_by s tag act ≡ None
+unasked_does_nothing s m tag (Accepted k) u = absurd u
+unasked_does_nothing s m tag (TurnedAway k) u = absurd u
+unasked_does_nothing s m tag (Started k) u = absurd u
+unasked_does_nothing s m tag (NotStarted k) u = absurd u
+unasked_does_nothing s m tag (Executed k number flag) u = absurd u
+unasked_does_nothing s m tag (Completed k refused) u = absurd u
+unasked_does_nothing s m tag Emitted u = refl
+unasked_does_nothing s m tag (Filed param slot value) u = refl
+
+nothing_done : (s : Session) (moments : List Moment) → AllByRecursion (λ m. IsUnasked s m m.act) moments → done_instructions s moments ≡ []
+nothing_done s [] all = refl
+nothing_done s (m ∷ moments) all =
+    ap (λ d. cons_option d (done_instructions s moments)) (unasked_does_nothing s m m.tag m.act all.0) ∙ nothing_done s moments all.1
+
+all_before : (P : Moment → Type 0) (tag : ℕ) (moments : List Moment) → AllByRecursion P moments → AllByRecursion P (moments_before tag moments)
+all_before P tag [] all = tt
+all_before P tag (m ∷ moments) all = go (nat_lt m.tag tag) (all_before P tag moments all.1)
+  where
+    go : (b : Bool) → AllByRecursion P (moments_before tag moments) → AllByRecursion P (cond b (m ∷ moments_before tag moments) (moments_before tag moments))
+    go true rest = (all.0, rest)
+    go false rest = rest
+
+-- the structures are those of the start after unasked moments
+structures_stay : (s : Session) (moments : List Moment) (key : Key) → AllByRecursion (λ m. IsUnasked s m m.act) moments → (state_after s moments).structure key ≡ s.initial.structure key
+structures_stay s moments key all = ap (λ ds. structure_after (tailoring s) s.initial ds key) (nothing_done s moments all)
+
+-- the structures are those of the boot state at every tag
+pub structures_unchanged : (w : World) → IsWorld w → IsUndisturbed w → (tag : ℕ) (key : Key) → (world_state_at w tag).structure key ≡ boot_structure (tailoring w.session) key
+structures_unchanged w h u tag key =
+    let all = unasked_moments w.session w.steps u.steps in
+    structures_stay w.session (moments_before tag (moments_of w.steps)) key (all_before (λ m. IsUnasked w.session m m.act) tag (moments_of w.steps) all)
+    ∙ ap (λ (b : BoardState). b.structure key) (h.session.booted u.known)
+
+-- and so they were when a report was made
+pub structures_reported : (w : World) → IsWorld w → IsUndisturbed w → (later earlier : List Moment) (key : Key) → moments_of w.steps ≡ later ++ earlier → (state_after w.session earlier).structure key ≡ boot_structure (tailoring w.session) key
+structures_reported w h u later earlier key before =
+    let all = unasked_moments w.session w.steps u.steps in
+    structures_stay w.session earlier key (AllByRecursion-parts (λ m. IsUnasked w.session m m.act) later earlier (subst (λ ms. AllByRecursion (λ m. IsUnasked w.session m m.act) ms) before all)).1
+    ∙ ap (λ (b : BoardState). b.structure key) (h.session.booted u.known)

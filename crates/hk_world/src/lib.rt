@@ -2,13 +2,16 @@
 //! and worlds.
 #![tactic(auto)]
 
-ghost use Rattle.std.specs.Prelude.{◌≡◌, List, ◌∷◌, pos};
+ghost use Rattle.std.specs.Prelude.{◌≡◌, ℕ, List, ◌∷◌, pos};
 ghost use Rattle.std.specs.List.{AllByRecursion};
+ghost use Rattle.hk_base.specs.Parameters.{boot_structure};
+ghost use Rattle.hk_base.specs.declared.types.Key.{Key};
 ghost use Rattle.hk_base.specs.declared.types.Kind.TheVariants.{Housekeeping};
+ghost use Rattle.hk_world.specs.Timelines.{tailoring};
 ghost use Rattle.st03_grammar.specs.Instructions.{key_of};
 ghost use Rattle.hk_world.specs.Legal.{IsLegal};
 ghost use Rattle.hk_world.specs.Honest.{IsHonest};
-ghost use Rattle.hk_world.specs.Worlds.{World, Step, IsWorld, IsDelivered, IsTrueValue, moments_of, deliveries_of};
+ghost use Rattle.hk_world.specs.Worlds.{World, Step, IsWorld, IsDelivered, IsTrueValue, moments_of, deliveries_of, world_state_at};
 ghost use Rattle.hk_world.specs.Undisturbed.{IsUndisturbed, AreDeliveredReports};
 ghost use Rattle.hk_world.specs.Examples.{reporting_world, commanded_world};
 
@@ -20,13 +23,14 @@ pub use moment::{Act, Moment};
 
 /// Laws of worlds. A prefix of a world is a world. The moments of a world are a legal and honest timeline. What was
 /// delivered are packets that the board made, each honest. Where nothing is commanded, they are housekeeping reports, in the
-/// order of their tags.
+/// order of their tags, and each structure is as at boot at every tag.
 pub fn worlds()
     ensures prefix { (w : World) (step : Step) (earlier : List Step) → w.steps ≡ step ∷ earlier → IsWorld w → IsWorld (record w { steps = earlier }) }
     ensures legal { (w : World) → IsWorld w → IsLegal w.session (moments_of w.steps) }
     ensures honest { (w : World) → IsWorld w → IsHonest w.session (moments_of w.steps) }
     ensures delivered { (w : World) → IsWorld w → AllByRecursion (IsDelivered w.session (moments_of w.steps)) (deliveries_of w.steps) }
     ensures undisturbed { (w : World) → IsWorld w → IsUndisturbed w → AreDeliveredReports w.session (moments_of w.steps) (deliveries_of w.steps) }
+    ensures unchanged { (w : World) → IsWorld w → IsUndisturbed w → (tag : ℕ) (key : Key) → (world_state_at w tag).structure key ≡ boot_structure (tailoring w.session) key }
 {}
 
 /// There are worlds: one in which nothing is commanded, and one in which a request changes the interval of a structure

@@ -1,6 +1,6 @@
 use Rattle.hk_world.proofs.WorldLemmas.{IsWorld-prefix, IsWorld-legal, IsWorld-honest}
 use Rattle.hk_world.proofs.DeliveryLemmas.{IsWorld-delivered}
-use Rattle.hk_world.proofs.UndisturbedLemmas.{delivered_reports}
+use Rattle.hk_world.proofs.UndisturbedLemmas.{delivered_reports, structures_unchanged}
 use Rattle.hk_world.proofs.worlds.Goals as goal
 
 pub returns-clause-prefix : goal.returns-clause-prefix
@@ -17,3 +17,6 @@ returns-clause-delivered c = IsWorld-delivered
 
 pub returns-clause-undisturbed : goal.returns-clause-undisturbed
 returns-clause-undisturbed c = delivered_reports
+
+pub returns-clause-unchanged : goal.returns-clause-unchanged
+returns-clause-unchanged c = structures_unchanged

@@ -4,3 +4,5 @@ pub mod SpellingLemmas
 pub mod ReadingLemmas
 pub mod WritingLemmas
 pub mod ChangeLemmas
+pub mod FoundLemmas
+pub mod BoundLemmas

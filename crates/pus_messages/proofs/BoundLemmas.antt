@@ -7,12 +7,12 @@ use Rattle.hk_base.specs.TailoringParts.{TailoringParts}
 use Rattle.hk_base.specs.Fields.{octets_of, signed_octets_of}
 use Rattle.hk_base.specs.Fit.{IsFit, IsFitShape}
 use Rattle.hk_base.specs.Parameters.{parameter}
-use Rattle.hk_base.specs.Spelling.{counted_octets, structure_octets, param_octets, interval_octets, flag_octets, time_octets, value_octets, mean_octets}
+use Rattle.body_fields.specs.Spelling.{counted_octets, structure_octets, param_octets, interval_octets, flag_octets, time_octets, value_octets, mean_octets}
 use Rattle.hk_base.specs.declared.types.Param.{Param}
 use Rattle.hk_base.specs.declared.types.SuperList.{SuperList}
 use Rattle.hk_base.proofs.FieldLemmas.{length-digits}
-use Rattle.hk_base.proofs.ValueLemmas.{length-value}
-use Rattle.hk_base.proofs.FitLemmas.{parameter-fit}
+use Rattle.body_fields.proofs.ValueLemmas.{length-value}
+use Rattle.body_fields.proofs.FitLemmas.{parameter-fit}
 use Rattle.st01_reports.specs.Spelling as st01
 use Rattle.hk_base.specs.declared.types.RequestId.{RequestId}
 use Rattle.st01_reports.specs.declared.verification.Cause.{Cause}

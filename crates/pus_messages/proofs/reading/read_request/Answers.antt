@@ -1,5 +1,5 @@
 use Rattle.std.proofs.Common.{arith}
-use Rattle.hk_base.proofs.BodyLemmas.{octets_below}
+use Rattle.body_fields.proofs.BodyLemmas.{octets_below}
 use Rattle.pus_messages.proofs.FoundLemmas.{request-found, request-few, request-apart}
 use Rattle.pus_messages.proofs.reading.read_request.Goals as goal
 

@@ -6,3 +6,4 @@ pub mod WritingLemmas
 pub mod ChangeLemmas
 pub mod FoundLemmas
 pub mod BoundLemmas
+pub mod RoomLemmas

@@ -10,7 +10,7 @@ ghost use Rattle.pus_messages.specs.Messages as messages;
 ghost use Rattle.pus_messages.specs.Messages.{as_body, request_of, report_of};
 ghost use Rattle.pus_messages.specs.Instructions.{instructions};
 ghost use Rattle.pus_messages.specs.Names.{NamesApart};
-ghost use Rattle.pus_messages.specs.Spelling.{IsRequestPacket, IsReportPacket};
+ghost use Rattle.pus_messages.specs.Spelling.{HasRoom, IsRequestPacket, IsReportPacket};
 ghost use Rattle.pus_messages.specs.Outcomes.{Gives, typed_body};
 
 use crate::laws::{protocols, reports_are_spelled, requests_are_spelled};
@@ -45,6 +45,7 @@ pub fn read_report(
     requires size { length bytes.now ≤ 2 ^ 31 }
     ensures gives { Gives (λ report. report) result (report_of tailoring.now bytes.now) }
     ensures found { IfOk result (λ report. IsReportPacket tailoring.now report bytes.now) }
+    ensures room { IfOk result (λ report. HasRoom report.body) }
 {
     reports_are_spelled();
     report_in(alloc, tailoring, bytes)

@@ -13,7 +13,7 @@ use Rattle.hk_tailoring.specs.declared.fault.TailoringFault.TheVariants.{NotToml
 use Rattle.hk_tailoring.specs.Checks.{Check, first_fault}
 use Rattle.hk_tailoring.specs.Keys.{Section, natural_at, list_at, needed_tables_checks, tables_checks}
 use Rattle.hk_tailoring.specs.Known.{known_keys, known_check}
-use Rattle.hk_tailoring.specs.Widths.{greatest_interval, width_checks, AreWidths}
+use Rattle.hk_tailoring.specs.Widths.{max_interval_in, width_checks, AreWidths}
 use Rattle.hk_tailoring.specs.Params.{param_in, params_checks, sections}
 use Rattle.hk_tailoring.specs.Structures.{Bounds, boot_in, structures_checks}
 
@@ -32,7 +32,7 @@ bounds_in s =
       structure_octets = natural_at s (codes "structure_octets") 1;
       parameter_octets = natural_at s (codes "parameter_octets") 2;
       repetition_octets = natural_at s (codes "repetition_octets") 1;
-      max_interval = natural_at s (codes "max_interval") (greatest_interval (natural_at s (codes "interval_octets") 2));
+      max_interval = max_interval_in s (natural_at s (codes "interval_octets") 2);
       max_payload = natural_at s (codes "max_payload") 1024;
     }
 

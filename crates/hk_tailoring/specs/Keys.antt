@@ -1,5 +1,5 @@
 -- The keys of a table in a document: where they stand, their kinds and their ranges.
-use Rattle.std.specs.Prelude.{ℕ, ℤ, pos, negsuc, List, [], ◌∷◌, ◌++◌, length, filter_map, flat_map, Bool, true, false, ◌&&◌, int_le, Option, Some, None, is_some, unwrap_or, option_map, option_and_then, codes, if◌then◌else◌}
+use Rattle.std.specs.Prelude.{ℕ, ℤ, pos, negsuc, List, [], ◌∷◌, ◌++◌, length, map, filter_map, flat_map, Bool, true, false, ◌&&◌, int_le, Option, Some, None, Result, is_some, unwrap_or, option_map, option_and_then, codes, if◌then◌else◌}
 use Rattle.std.specs.Option.{option_map_or}
 use Rattle.std.specs.List.{list_all, enumerate_from}
 use Rattle.std.specs.Fmt.{decimal}
@@ -8,7 +8,8 @@ use Rattle.toml.specs.View.{table_view}
 use Rattle.hk_tailoring.specs.declared.section.Place.{Place}
 use Rattle.hk_tailoring.specs.declared.section.Place.TheVariants.{Document, Parameter, Structure, Array}
 use Rattle.hk_tailoring.specs.declared.section.Section.{Section as SectionBeside}
-use Rattle.hk_tailoring.specs.Checks.{Check, check}
+use Rattle.hk_tailoring.specs.Checks.{Check, check, Answers}
+use Rattle.hk_tailoring.specs.declared.fault.TailoringFault.{TailoringFault}
 use Rattle.hk_tailoring.specs.declared.fault.TailoringFault.TheVariants.{MissingKey, WrongKind, OutOfRange}
 
 -- the values of an array
@@ -91,6 +92,10 @@ number_checks s key low high =
 unfoldable pub needed_number_checks : Section → List ℕ → ℕ → ℕ → List Check
 needed_number_checks s key low high = presence s key ∷ number_checks s key low high
 
+-- An answer to some checks of a key is its number, or another where the key is missing.
+abbrev pub AnswersNumber : List Check → Section → List ℕ → ℕ → Result ℕ TailoringFault → Type 0
+AnswersNumber checks s key missing result = Answers (λ n. n) checks (natural_at s key missing) result
+
 -- the flag of a key, false where it is missing
 unfoldable pub flag_at : Section → List ℕ → Bool
 flag_at s key = unwrap_or (option_and_then as_bool (at_key s key)) false
@@ -136,9 +141,13 @@ needed_tables_checks s key low high = presence s key ∷ tables_checks s key low
 abbrev pub natural_of : Data → Option ℕ
 natural_of d = option_map natural (as_integer d)
 
+-- the numbers in a list of values
+abbrev pub naturals_in : List Data → List ℕ
+naturals_in ds = filter_map natural_of ds
+
 -- the numbers of a key's list
 abbrev pub naturals_at : Section → List ℕ → List ℕ
-naturals_at s key = filter_map natural_of (list_at s key)
+naturals_at s key = naturals_in (list_at s key)
 
 -- a member of a list of numbers up to a greatest one, with its place in the list
 unfoldable pub member_checks : Section → List ℕ → ℕ → ℕ × Data → List Check
@@ -158,3 +167,15 @@ numbers_checks s key low high greatest = list_checks s key low high ++ members_c
 -- a key that must be there, with so many numbers up to a greatest one
 unfoldable pub needed_numbers_checks : Section → List ℕ → ℕ → ℕ → ℕ → List Check
 needed_numbers_checks s key low high greatest = presence s key ∷ numbers_checks s key low high greatest
+
+-- An answer to some checks of a key is the numbers of its list.
+abbrev pub AnswersIds : List Check → Section → List ℕ → Result (List ℕ) TailoringFault → Type 0
+AnswersIds checks s key result = Answers (λ ids. ids) checks (naturals_at s key) result
+
+-- An answer to some checks of a key is the numbers of its list, as values of a parameter.
+abbrev pub AnswersValues : List Check → Section → List ℕ → Result (List ℤ) TailoringFault → Type 0
+AnswersValues checks s key result = Answers (λ values. values) checks (map pos (naturals_at s key)) result
+
+-- An answer to the checks of a list's members is its numbers, as they are read.
+abbrev pub AnswersMembers : {A V : Type 0} → (A → V) → (List ℕ → V) → Section → List ℕ → ℕ → List Data → Result A TailoringFault → Type 0
+AnswersMembers view reading s key greatest ds result = Answers view (members_checks s key greatest 0 ds) (reading (naturals_in ds)) result

@@ -1,5 +1,5 @@
 -- The parameters that a document states: their checks in order, and what they stand for.
-use Rattle.std.specs.Prelude.{ℕ, ◌+◌, ◌-◌, ◌*◌, ◌/◌, ◌^◌, List, [], ◌∷◌, ◌++◌, map, filter_map, Bool, true, false, not, ◌==◌, pos, Option, Some, None, is_some, unwrap_or, option_map, option_and_then, codes, if◌then◌else◌}
+use Rattle.std.specs.Prelude.{ℕ, ℤ, ◌+◌, ◌-◌, ◌*◌, ◌/◌, ◌^◌, List, [], ◌∷◌, ◌++◌, map, filter_map, Bool, true, false, not, ◌==◌, pos, Option, Some, None, is_some, unwrap_or, option_map, option_and_then, codes, if◌then◌else◌}
 use Rattle.std.specs.List.{list_any, enumerate_from}
 use Rattle.std.specs.Str.{bytes_eq}
 use Rattle.toml.specs.Data.{Data, as_str, as_table}
@@ -64,11 +64,15 @@ values_checks Signed bits s = []
 values_checks Enumerated bits s = needed_numbers_checks s (codes "values") 1 64 (2 ^ bits - 1)
 values_checks Boolean bits s = []
 
+-- the initial value of a parameter, if it states one
+abbrev pub initial_in : Section → Option ℤ
+initial_in s = number_at s (codes "initial")
+
 -- a parameter's initial value, if it has one, fits it
 unfoldable pub initial_checks : Form → ℕ → Section → List Check
 initial_checks form bits s =
     kind_check s (codes "initial") is_number
-    ∷ range_check (path_of s (codes "initial")) (in_range form bits) (number_at s (codes "initial"))
+    ∷ range_check (path_of s (codes "initial")) (in_range form bits) (initial_in s)
     ∷ []
 
 -- whether a form is enumerated
@@ -99,7 +103,7 @@ param_in packed s =
       form = form_of (form_name_in s) s;
       octets = (bits_in packed s + 7) / 8;
       bits = bits_in packed s;
-      initial = number_at s (codes "initial");
+      initial = initial_in s;
     }
 
 -- a table that stands at a place

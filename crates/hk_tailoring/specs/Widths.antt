@@ -1,5 +1,6 @@
 -- The widths that a document states: their checks in order, and the values that stand where keys are missing.
 use Rattle.std.specs.Prelude.{◌≡◌, ℕ, ◌-◌, ◌*◌, ◌^◌, List, ◌++◌, min, codes, ◌==◌}
+use Rattle.hk_base.specs.Fit.{IsWithin}
 use Rattle.hk_base.specs.declared.types.Widths.{Widths}
 use Rattle.hk_tailoring.specs.Checks.{Check}
 use Rattle.hk_tailoring.specs.Keys.{Section, natural_at, flag_at, number_checks, needed_number_checks, flag_checks}
@@ -11,6 +12,18 @@ greatest_in bits = 2 ^ bits - 1
 -- the greatest interval that may be allowed, by the octets of intervals
 abbrev pub greatest_interval : ℕ → ℕ
 greatest_interval octets = min 4096 (greatest_in (8 * octets))
+
+-- a number is that of a key, or another where the key is missing, and is from low to high
+abbrev pub IsStated : Section → List ℕ → ℕ → ℕ → ℕ → ℕ → Type 0
+IsStated s key missing low high n = (n ≡ natural_at s key missing) × IsWithin low high n
+
+-- the greatest interval that is allowed, by the octets of intervals
+abbrev pub max_interval_in : Section → ℕ → ℕ
+max_interval_in s octets = natural_at s (codes "max_interval") (greatest_interval octets)
+
+-- the checks of the greatest interval, by the octets of intervals
+abbrev pub max_interval_checks : Section → ℕ → List Check
+max_interval_checks s octets = number_checks s (codes "max_interval") 1 (greatest_interval octets)
 
 -- the version, and the addresses
 unfoldable pub identity_checks : Section → List Check
@@ -44,7 +57,7 @@ count_octets_checks s =
 unfoldable pub limit_checks : Section → ℕ → List Check
 limit_checks s interval_octets =
     number_checks s (codes "mean_fraction") 0 2
-    ++ (number_checks s (codes "max_interval") 1 (greatest_interval interval_octets) ++ number_checks s (codes "max_payload") 1 4096)
+    ++ (max_interval_checks s interval_octets ++ number_checks s (codes "max_payload") 1 4096)
 
 -- all widths
 unfoldable pub width_checks : Section → List Check
@@ -71,5 +84,5 @@ pub record AreWidths (s : Section) (w : Widths) : Type 0 where
   pub repetition_octets : w.repetition_octets ≡ natural_at s (codes "repetition_octets") 1
   pub step_octets : w.step_octets ≡ natural_at s (codes "step_octets") 1
   pub mean_fraction : w.mean_fraction ≡ natural_at s (codes "mean_fraction") 0
-  pub max_interval : w.max_interval ≡ natural_at s (codes "max_interval") (greatest_interval (natural_at s (codes "interval_octets") 2))
+  pub max_interval : w.max_interval ≡ max_interval_in s (natural_at s (codes "interval_octets") 2)
   pub max_payload : w.max_payload ≡ natural_at s (codes "max_payload") 1024

@@ -3,7 +3,7 @@ ghost use Rattle.std.specs.Prelude.{◌≡◌, ◌≤◌, ◌^◌, ◌-◌, ℕ,
 ghost use Rattle.toml.specs.View.{view};
 ghost use Rattle.hk_tailoring.specs.Checks.{Answers, IsUnlessMemory};
 ghost use Rattle.hk_tailoring.specs.Keys as keys;
-ghost use Rattle.hk_tailoring.specs.Keys.{section_of, at_key, natural_at, flag_at, natural, number_checks, needed_number_checks, flag_checks};
+ghost use Rattle.hk_tailoring.specs.Keys.{section_of, at_key, flag_at, natural, number_checks, needed_number_checks, flag_checks, AnswersNumber};
 
 use crate::fault::TailoringFault;
 use crate::section::{Place, Section};
@@ -116,7 +116,7 @@ impl Section<'_> {
         high: u64,
     ) -> Result<u64, TailoringFault>
         requires { at_key (section_of self.now) key.now ≡ Some (view value.now) }
-        ensures number { (missing : ℕ) → Answers (λ n. n) (number_checks (section_of self.now) key.now low high) (natural_at (section_of self.now) key.now missing) result }
+        ensures number { (missing : ℕ) → AnswersNumber (number_checks (section_of self.now) key.now low high) (section_of self.now) key.now missing result }
         ensures within { IfOk result (λ n. (low ≤ n) × (n ≤ high)) }
     {
         let Some(number) = value.as_integer() else {
@@ -131,7 +131,7 @@ impl Section<'_> {
     /// A key that must be there, with a whole number from low to high.
     #[tactic(auto, unfolding(crate::specs::Keys::needed_number_checks))]
     pub fn needed_number(&self, key: &str, low: u64, high: u64) -> Result<u64, TailoringFault>
-        ensures number { Answers (λ n. n) (needed_number_checks (section_of self.now) key.now low high) (natural_at (section_of self.now) key.now 0) result }
+        ensures number { AnswersNumber (needed_number_checks (section_of self.now) key.now low high) (section_of self.now) key.now 0 result }
         ensures within { IfOk result (λ n. (low ≤ n) × (n ≤ high)) }
     {
         match self.value(key) {
@@ -150,7 +150,7 @@ impl Section<'_> {
         missing: u64,
     ) -> Result<u64, TailoringFault>
         requires { (low ≤ missing) × (missing ≤ high) }
-        ensures number { Answers (λ n. n) (number_checks (section_of self.now) key.now low high) (natural_at (section_of self.now) key.now missing) result }
+        ensures number { AnswersNumber (number_checks (section_of self.now) key.now low high) (section_of self.now) key.now missing result }
         ensures within { IfOk result (λ n. (low ≤ n) × (n ≤ high)) }
     {
         match self.value(key) {

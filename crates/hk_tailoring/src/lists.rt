@@ -1,11 +1,13 @@
 //! The lists of a table: how many members they have, and which.
-ghost use Rattle.std.specs.Prelude.{◌≡◌, ◌≤◌, ◌<◌, ◌^◌, ◌-◌, ◌≤ℤ◌, ◌<ℤ◌, ◌++◌, ◌∷◌, [], OnOk, ℕ, List, map, length, is_some, true, Some, None, IfSome, IfOk, option_map, filter_map, pos};
+ghost use Rattle.std.specs.Prelude.{◌≡◌, ◌≤◌, ◌<◌, ◌^◌, ◌-◌, ◌≤ℤ◌, ◌<ℤ◌, ◌++◌, ◌∷◌, [], OnOk, ℕ, List, true, Some, None};
+ghost use Rattle.std.specs.Prelude.{map, length, is_some, IfSome, IfOk, option_map, pos};
 ghost use Rattle.std.specs.List.{list_all, AllPass, AllByRecursion};
 ghost use Rattle.toml.specs.Data.{as_table};
 ghost use Rattle.toml.specs.View.{view, items_view};
 ghost use Rattle.hk_tailoring.specs.Checks.{Answers, Passes, IsUnlessMemory};
 ghost use Rattle.hk_tailoring.specs.Keys as keys;
-ghost use Rattle.hk_tailoring.specs.Keys.{section_of, at_key, list_at, natural_of, naturals_at, length_check, list_checks, tables_checks, needed_tables_checks, member_checks, members_checks, numbers_checks, needed_numbers_checks};
+ghost use Rattle.hk_tailoring.specs.Keys.{section_of, at_key, list_at, natural_of, length_check, list_checks, tables_checks};
+ghost use Rattle.hk_tailoring.specs.Keys.{needed_tables_checks, member_checks, numbers_checks, needed_numbers_checks, AnswersIds, AnswersValues, AnswersMembers};
 
 use crate::fault::TailoringFault;
 use crate::keys::{greatest_in, natural_within};
@@ -32,7 +34,7 @@ impl Section<'_> {
     /// A list of so many values that may be missing, and is empty then.
     #[tactic(auto, unfolding(crate::specs::Keys::list_checks, crate::specs::Keys::list_at))]
     pub fn list(&self, key: &str, low: usize, high: usize) -> Result<&[Value], TailoringFault>
-        ensures values { Answers (λ values. map view values.now) (list_checks (section_of self.now) key.now low high) (list_at (section_of self.now) key.now) result }
+        ensures values { let s = section_of self.now in Answers (λ v. map view v.now) (list_checks s key.now low high) (list_at s key.now) result }
         ensures few { IfOk result (λ values. length values.now ≤ high) }
         ensures many { is_some (at_key (section_of self.now) key.now) ≡ true → IfOk result (λ values. low ≤ length values.now) }
     {
@@ -50,7 +52,7 @@ impl Section<'_> {
     #[tactic(auto, unfolding(crate::specs::Keys::tables_checks, crate::specs::Keys::list_at))]
     pub fn tables(&self, key: &str, low: usize, high: usize) -> Result<&[Value], TailoringFault>
         ensures tables { IfOk result (λ values. AllPass (λ value. is_some (as_table (view value))) values.now) }
-        ensures values { Answers (λ values. map view values.now) (tables_checks (section_of self.now) key.now low high) (list_at (section_of self.now) key.now) result }
+        ensures values { let s = section_of self.now in Answers (λ v. map view v.now) (tables_checks s key.now low high) (list_at s key.now) result }
         ensures few { IfOk result (λ values. length values.now ≤ high) }
         ensures many { is_some (at_key (section_of self.now) key.now) ≡ true → IfOk result (λ values. low ≤ length values.now) }
     {
@@ -73,7 +75,7 @@ impl Section<'_> {
         high: usize,
     ) -> Result<&[Value], TailoringFault>
         ensures tables { IfOk result (λ values. AllPass (λ value. is_some (as_table (view value))) values.now) }
-        ensures values { Answers (λ values. map view values.now) (needed_tables_checks (section_of self.now) key.now low high) (list_at (section_of self.now) key.now) result }
+        ensures values { let s = section_of self.now in Answers (λ v. map view v.now) (needed_tables_checks s key.now low high) (list_at s key.now) result }
         ensures within { IfOk result (λ values. (low ≤ length values.now) × (length values.now ≤ high)) }
     {
         match self.value(key) {
@@ -91,7 +93,7 @@ impl Section<'_> {
         value: &Value,
         greatest: u64,
     ) -> Result<u64, TailoringFault>
-        ensures number { Answers (λ m. Some m) (member_checks (section_of self.now) key.now greatest (n, view value.now)) (natural_of (view value.now)) result }
+        ensures number { let d = view value.now in Answers (λ m. Some m) (member_checks (section_of self.now) key.now greatest (n, d)) (natural_of d) result }
         ensures within { IfOk result (λ m. m ≤ greatest) }
     {
         let Some(number) = value.as_integer() else {
@@ -113,7 +115,7 @@ impl Section<'_> {
         greatest: u64,
     ) -> Result<Items<u32>, TailoringFault>
         requires { greatest < 2 ^ 32 }
-        ensures ids { Answers (λ ids. ids) (numbers_checks (section_of self.now) key.now low high greatest) (naturals_at (section_of self.now) key.now) result }
+        ensures ids { AnswersIds (numbers_checks (section_of self.now) key.now low high greatest) (section_of self.now) key.now result }
         ensures few { IfOk result (λ ids. length ids ≤ high) }
         ensures many { is_some (at_key (section_of self.now) key.now) ≡ true → IfOk result (λ ids. low ≤ length ids) }
     {
@@ -132,7 +134,7 @@ impl Section<'_> {
         greatest: u64,
     ) -> Result<Items<u32>, TailoringFault>
         requires { greatest < 2 ^ 32 }
-        ensures ids { Answers (λ ids. ids) (needed_numbers_checks (section_of self.now) key.now low high greatest) (naturals_at (section_of self.now) key.now) result }
+        ensures ids { AnswersIds (needed_numbers_checks (section_of self.now) key.now low high greatest) (section_of self.now) key.now result }
         ensures within { IfOk result (λ ids. (low ≤ length ids) × (length ids ≤ high)) }
     {
         match self.value(key) {
@@ -151,7 +153,7 @@ impl Section<'_> {
         bits: u8,
     ) -> Result<Items<hk_base::Value>, TailoringFault>
         requires { (1 ≤ bits) × (bits ≤ 64) }
-        ensures values { Answers (λ values. values) (needed_numbers_checks (section_of self.now) key.now low high (2 ^ bits - 1)) (map pos (naturals_at (section_of self.now) key.now)) result }
+        ensures values { AnswersValues (needed_numbers_checks (section_of self.now) key.now low high (2 ^ bits - 1)) (section_of self.now) key.now result }
         ensures within { IfOk result (λ values. (low ≤ length values) × (length values ≤ high)) }
         ensures small { IfOk result (λ values. AllByRecursion (λ v. (pos 0 ≤ℤ v) × (v <ℤ pos (2 ^ bits))) values) }
     {
@@ -171,7 +173,7 @@ impl Section<'_> {
         bits: u8,
     ) -> Result<Items<hk_base::Value>, TailoringFault>
         requires { (1 ≤ bits) × (bits ≤ 64) }
-        ensures values { Answers (λ values. values) (numbers_checks (section_of self.now) key.now low high (2 ^ bits - 1)) (map pos (naturals_at (section_of self.now) key.now)) result }
+        ensures values { AnswersValues (numbers_checks (section_of self.now) key.now low high (2 ^ bits - 1)) (section_of self.now) key.now result }
         ensures few { IfOk result (λ values. length values ≤ high) }
         ensures many { is_some (at_key (section_of self.now) key.now) ≡ true → IfOk result (λ values. low ≤ length values) }
         ensures small { IfOk result (λ values. AllByRecursion (λ v. (pos 0 ≤ℤ v) × (v <ℤ pos (2 ^ bits))) values) }
@@ -189,7 +191,7 @@ impl Section<'_> {
         bits: u8,
     ) -> Result<Vec<hk_base::Value>, TailoringFault>
         requires { (1 ≤ bits) × (bits ≤ 64) }
-        ensures values { Answers (λ numbers. numbers.items) (members_checks (section_of self.now) key.now (2 ^ bits - 1) 0 (map view values.now)) (map pos (filter_map natural_of (map view values.now))) result }
+        ensures values { AnswersMembers (λ numbers. numbers.items) (map pos) (section_of self.now) key.now (2 ^ bits - 1) (map view values.now) result }
         ensures count { IfOk result (λ numbers. length numbers.items ≡ length values.now) }
         ensures small { IfOk result (λ numbers. AllByRecursion (λ v. (pos 0 ≤ℤ v) × (v <ℤ pos (2 ^ bits))) numbers.items) }
     {
@@ -210,7 +212,7 @@ impl Section<'_> {
         greatest: u64,
     ) -> Result<Vec<u32>, TailoringFault>
         requires { greatest < 2 ^ 32 }
-        ensures ids { Answers (λ ids. ids.items) (members_checks (section_of self.now) key.now greatest 0 (map view values.now)) (filter_map natural_of (map view values.now)) result }
+        ensures ids { AnswersMembers (λ ids. ids.items) (λ ids. ids) (section_of self.now) key.now greatest (map view values.now) result }
         ensures count { IfOk result (λ ids. length ids.items ≡ length values.now) }
     {
         let mut ids = Vec::new(self.alloc);

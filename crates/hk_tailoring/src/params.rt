@@ -1,14 +1,16 @@
 //! The parameters that a document states.
-ghost use Rattle.std.specs.Prelude.{◌≡◌, ◌≤◌, ◌<◌, ◌^◌, ◌+◌, ◌*◌, ◌/◌, ◌++◌, ◌∷◌, [], ⊤, IfOk, IfSome, OnOk, OnErr, IsTrue, MatchBool, false, ◌==◌, map, nat_eq, codes, length, is_some};
+ghost use Rattle.std.specs.Prelude.{◌≡◌, ◌≤◌, ◌<◌, ◌^◌, ◌+◌, ◌*◌, ◌/◌, ◌++◌, ◌∷◌, [], ⊤};
+ghost use Rattle.std.specs.Prelude.{IfOk, IfSome, OnOk, OnErr, IsTrue, MatchBool, false, ◌==◌, map, nat_eq, codes, length, is_some};
 ghost use Rattle.std.specs.List.{AllByRecursion, AllPass, IsDistinct, list_any};
 ghost use Rattle.toml.specs.Data.{as_table};
 ghost use Rattle.toml.specs.View.{view};
 ghost use Rattle.hk_base.specs.Parameters.{fits as value_fits};
 ghost use Rattle.hk_base.specs.Fit.{IsWithin, IsFitForm, IsFitShape, IsFitParam};
 ghost use Rattle.hk_tailoring.specs.Checks.{Answers, Passes};
-ghost use Rattle.hk_tailoring.specs.Keys.{section_of, number_at};
+ghost use Rattle.hk_tailoring.specs.Keys.{section_of};
 ghost use Rattle.hk_tailoring.specs.Params as params;
-ghost use Rattle.hk_tailoring.specs.Params.{form_checks, form_name_in, bits_checks, bits_in, values_checks, form_of, initial_checks, param_checks, param_in, next_param_checks, params_checks, sections};
+ghost use Rattle.hk_tailoring.specs.Params.{form_checks, form_name_in, bits_checks, bits_in, values_checks, form_of};
+ghost use Rattle.hk_tailoring.specs.Params.{initial_checks, initial_in, param_checks, param_in, next_param_checks, params_checks, sections};
 ghost use Rattle.hk_tailoring.specs.declared.section.Place.TheVariants.{Parameter};
 
 use crate::fault::TailoringFault;
@@ -106,7 +108,7 @@ fn read_initial(
     param: &Param,
 ) -> Result<Option<hk_base::Value>, TailoringFault>
     requires { IsFitShape param.now }
-    ensures initial { Answers (λ initial. initial) (initial_checks param.now.form param.now.bits (section_of section.now)) (number_at (section_of section.now) (codes "initial")) result }
+    ensures initial { let s = section_of section.now in Answers (λ v. v) (initial_checks param.now.form param.now.bits s) (initial_in s) result }
     ensures fit { IfOk result (λ initial. IfSome initial (λ v. IsTrue (value_fits param.now v))) }
 {
     let Some(value) = section.value("initial") else {

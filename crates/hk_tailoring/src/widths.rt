@@ -2,8 +2,9 @@
 ghost use Rattle.std.specs.Prelude.{◌≡◌, ◌≤◌, ◌<◌, ◌^◌, ◌-◌, ◌==◌, IfOk, codes};
 ghost use Rattle.hk_base.specs.Fit.{IsWithin, IsFitWidths};
 ghost use Rattle.hk_tailoring.specs.Checks.{Answers, Passes};
-ghost use Rattle.hk_tailoring.specs.Keys.{section_of, natural_at, flag_at, number_checks};
-ghost use Rattle.hk_tailoring.specs.Widths.{identity_checks, time_checks, checksum_checks, id_octets_checks, count_octets_checks, limit_checks, width_checks, greatest_interval, AreWidths};
+ghost use Rattle.hk_tailoring.specs.Keys.{section_of, natural_at, flag_at};
+ghost use Rattle.hk_tailoring.specs.Widths.{identity_checks, time_checks, checksum_checks, id_octets_checks, count_octets_checks, limit_checks};
+ghost use Rattle.hk_tailoring.specs.Widths.{max_interval_checks, width_checks, greatest_interval, max_interval_in, IsStated, AreWidths};
 
 use crate::fault::TailoringFault;
 use crate::keys::greatest_in;
@@ -73,9 +74,9 @@ fn read_identity(document: &Section<'_>) -> Result<Identity, TailoringFault>
 #[tactic(auto, unfolding(crate::specs::Widths::time_checks))]
 fn read_times(document: &Section<'_>) -> Result<Times, TailoringFault>
     ensures checked { Passes (time_checks (section_of document.now)) result }
-    ensures coarse { IfOk result (λ x. (x.coarse ≡ natural_at (section_of document.now) (codes "coarse") 4) × IsWithin 1 4 x.coarse) }
+    ensures coarse { IfOk result (λ x. IsStated (section_of document.now) (codes "coarse") 4 1 4 x.coarse) }
     ensures fine { IfOk result (λ x. (x.fine ≡ natural_at (section_of document.now) (codes "fine") 2) × (x.fine ≤ 3)) }
-    ensures slot { IfOk result (λ x. (x.slot ≡ natural_at (section_of document.now) (codes "slot") 0) × IsWithin 16 (2 ^ 32) x.slot) }
+    ensures slot { IfOk result (λ x. IsStated (section_of document.now) (codes "slot") 0 16 (2 ^ 32) x.slot) }
 {
     let coarse = document.number_or("coarse", 1, 4, 4)?;
     let fine = document.number_or("fine", 0, 3, 2)?;
@@ -103,9 +104,9 @@ fn read_checksums(document: &Section<'_>) -> Result<Checksums, TailoringFault>
 #[tactic(auto, unfolding(crate::specs::Widths::id_octets_checks))]
 fn read_id_octets(document: &Section<'_>) -> Result<IdOctets, TailoringFault>
     ensures checked { Passes (id_octets_checks (section_of document.now)) result }
-    ensures structure { IfOk result (λ x. (x.structure ≡ natural_at (section_of document.now) (codes "structure_octets") 1) × IsWithin 1 2 x.structure) }
-    ensures parameter { IfOk result (λ x. (x.parameter ≡ natural_at (section_of document.now) (codes "parameter_octets") 2) × IsWithin 1 2 x.parameter) }
-    ensures interval { IfOk result (λ x. (x.interval ≡ natural_at (section_of document.now) (codes "interval_octets") 2) × IsWithin 1 4 x.interval) }
+    ensures structure { IfOk result (λ x. IsStated (section_of document.now) (codes "structure_octets") 1 1 2 x.structure) }
+    ensures parameter { IfOk result (λ x. IsStated (section_of document.now) (codes "parameter_octets") 2 1 2 x.parameter) }
+    ensures interval { IfOk result (λ x. IsStated (section_of document.now) (codes "interval_octets") 2 1 4 x.interval) }
 {
     let structure = document.number_or("structure_octets", 1, 2, 1)?;
     let parameter = document.number_or("parameter_octets", 1, 2, 2)?;
@@ -121,9 +122,9 @@ fn read_id_octets(document: &Section<'_>) -> Result<IdOctets, TailoringFault>
 #[tactic(auto, unfolding(crate::specs::Widths::count_octets_checks))]
 fn read_count_octets(document: &Section<'_>) -> Result<CountOctets, TailoringFault>
     ensures checked { Passes (count_octets_checks (section_of document.now)) result }
-    ensures count { IfOk result (λ x. (x.count ≡ natural_at (section_of document.now) (codes "count_octets") 1) × IsWithin 1 2 x.count) }
-    ensures repetition { IfOk result (λ x. (x.repetition ≡ natural_at (section_of document.now) (codes "repetition_octets") 1) × IsWithin 1 2 x.repetition) }
-    ensures step { IfOk result (λ x. (x.step ≡ natural_at (section_of document.now) (codes "step_octets") 1) × IsWithin 1 2 x.step) }
+    ensures count { IfOk result (λ x. IsStated (section_of document.now) (codes "count_octets") 1 1 2 x.count) }
+    ensures repetition { IfOk result (λ x. IsStated (section_of document.now) (codes "repetition_octets") 1 1 2 x.repetition) }
+    ensures step { IfOk result (λ x. IsStated (section_of document.now) (codes "step_octets") 1 1 2 x.step) }
 {
     let count = document.number_or("count_octets", 1, 2, 1)?;
     let repetition = document.number_or("repetition_octets", 1, 2, 1)?;
@@ -147,7 +148,7 @@ fn greatest_interval_of(octets: u8) -> u64
 /// The greatest interval that is allowed.
 fn read_max_interval(document: &Section<'_>, octets: u8) -> Result<u32, TailoringFault>
     requires { IsWithin 1 4 octets }
-    ensures number { Answers (λ n. n) (number_checks (section_of document.now) (codes "max_interval") 1 (greatest_interval octets)) (natural_at (section_of document.now) (codes "max_interval") (greatest_interval octets)) result }
+    ensures number { let s = section_of document.now in Answers (λ n. n) (max_interval_checks s octets) (max_interval_in s octets) result }
     ensures within { IfOk result (λ n. IsWithin 1 4096 n × (n < 256 ^ octets)) }
 {
     let greatest = greatest_interval_of(octets);
@@ -160,10 +161,10 @@ fn read_max_interval(document: &Section<'_>, octets: u8) -> Result<u32, Tailorin
 fn read_limits(document: &Section<'_>, interval_octets: u8) -> Result<Limits, TailoringFault>
     requires { IsWithin 1 4 interval_octets }
     ensures checked { Passes (limit_checks (section_of document.now) interval_octets) result }
-    ensures mean_fraction { IfOk result (λ x. (x.mean_fraction ≡ natural_at (section_of document.now) (codes "mean_fraction") 0) × (x.mean_fraction ≤ 2)) }
-    ensures max_interval { IfOk result (λ x. x.max_interval ≡ natural_at (section_of document.now) (codes "max_interval") (greatest_interval interval_octets)) }
+    ensures mean_fraction { IfOk result (λ x. IsStated (section_of document.now) (codes "mean_fraction") 0 0 2 x.mean_fraction) }
+    ensures max_interval { IfOk result (λ x. x.max_interval ≡ max_interval_in (section_of document.now) interval_octets) }
     ensures interval_fits { IfOk result (λ x. IsWithin 1 4096 x.max_interval × (x.max_interval < 256 ^ interval_octets)) }
-    ensures max_payload { IfOk result (λ x. (x.max_payload ≡ natural_at (section_of document.now) (codes "max_payload") 1024) × IsWithin 1 4096 x.max_payload) }
+    ensures max_payload { IfOk result (λ x. IsStated (section_of document.now) (codes "max_payload") 1024 1 4096 x.max_payload) }
 {
     let mean_fraction = document.number_or("mean_fraction", 0, 2, 0)?;
     let max_interval = read_max_interval(document, interval_octets)?;

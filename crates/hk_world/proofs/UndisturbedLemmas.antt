@@ -1,5 +1,5 @@
 -- What was delivered in a world in which nothing is commanded.
-use Rattle.std.proofs.Common.{◌≡◌, ◌≢◌, ℕ, zero, suc, List, [], ◌∷◌, Some, refl, sym, ◌∙◌, ap, subst}
+use Rattle.std.proofs.Common.{◌≡◌, ◌≢◌, ℕ, zero, suc, List, [], ◌∷◌, Some, sym, ◌∙◌, ap, subst}
 use Rattle.std.specs.Prelude.{slice_get}
 use Rattle.std.specs.List.{AllByRecursion}
 use Rattle.std.proofs.lemmas.Option.{same_Some, none-some}
@@ -7,7 +7,7 @@ use Rattle.pus_messages.specs.Protocol.{Reception, readable}
 use Rattle.st03_grammar.specs.declared.bodies.Report03.TheVariants as hk
 use Rattle.pus_messages.specs.declared.message.ReportBody.{ReportBody}
 use Rattle.pus_messages.specs.declared.message.ReportBody.TheVariants.{Hk}
-use Rattle.hk_world.specs.Timelines.{EachAfter, Session}
+use Rattle.hk_world.specs.Timelines.{Session}
 use Rattle.hk_world.specs.Honest.{IsReport, IsHonestBody, Carries}
 use Rattle.hk_world.specs.Worlds.{Step, send, happen, deliver, stray, World, IsWorld, IsDelivered, moments_of, deliveries_of}
 use Rattle.hk_world.specs.Undisturbed.{housekeeping, IsUnasked, IsUndisturbedStep, IsUndisturbed, SendsReport, IsDeliveredReport, AreDeliveredReports}

@@ -40,20 +40,15 @@ pub nothing : (t : TailoringParts) → (protocol t).reception [] ≡ unread
 nothing t = let enough = some_octets (t.widths.coarse + t.widths.fine) (checksum_octets t.widths.tm_checksum) in rw enough refl
 
 -- where there is no fault the first test passes
-first_passes : (b : Bool) (fault : PacketFault) (rest : Option PacketFault) → option_or (fault_unless b fault) rest ≡ None → b ≡ true
-first_passes true fault rest e = refl
-first_passes false fault rest e = cc
-
--- where there is no fault the earlier tests pass
-no_earlier : (a b : Option PacketFault) → option_or a b ≡ None → a ≡ None
-no_earlier None b e = refl
-no_earlier (Some fault) b e = cc
+first_passes : (b : Bool) (fault : PacketFault) (rest more : Option PacketFault) → option_or (option_or (fault_unless b fault) rest) more ≡ None → b ≡ true
+first_passes true fault rest more e = refl
+first_passes false fault rest more e = cc
 
 -- a packet without a fault has at least the octets of its headers
 enough_octets : (wanted headers : ℕ) (checksum : Bool) (packet : List ℕ) → packet_fault wanted headers checksum packet ≡ None → headers ≤ length packet
 enough_octets wanted headers checksum packet e =
     let short = nat_lt (length packet) (headers + checksum_octets checksum) in
-    let passes : not short ≡ true = first_passes (not short) (Short (length packet)) _ (no_earlier _ _ e) in
+    let passes : not short ≡ true = first_passes (not short) (Short (length packet)) _ _ e in
     let le = ltb-false (length packet) (headers + checksum_octets checksum) (not-true short passes) in
     omega (arith, le)
 

@@ -1,3 +1,7 @@
 pub mod Lawful
 pub mod NameLemmas
+pub mod SpellingLemmas
+pub mod ReadingLemmas
+pub mod WritingLemmas
+pub mod ChangeLemmas
 mod WordRows

@@ -27,7 +27,8 @@ use Rattle.ground_history.specs.Histories.{History}
 use Rattle.ground_history.specs.Evidence.{outcome}
 use Rattle.ground_history.specs.declared.answer.Outcome.{Outcome}
 use Rattle.ground_history.specs.declared.answer.Outcome.TheVariants.{Done, Refused, Unknown}
-use Rattle.definition_intervals.specs.Openings.{Candidate, Opening, change_on, numbered_change, first_of_list, change_by, is_at_most, is_certain, candidates, is_known_done, is_creation, surely_creates}
+use Rattle.pus_messages.specs.Changes.{change_on, numbered_change, first_of_list, change_by}
+use Rattle.definition_intervals.specs.Openings.{Candidate, Opening, is_at_most, is_certain, candidates, is_known_done, is_creation, surely_creates}
 use Rattle.definition_intervals.specs.States.{agreed_states, next_states}
 use Rattle.hk_base.proofs.Membership.{some_value, IsIn, list_any-IsIn, IsIn-list_any}
 use Rattle.definition_intervals.proofs.ChoiceLemmas.{next-cases}

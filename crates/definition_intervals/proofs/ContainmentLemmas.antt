@@ -21,7 +21,8 @@ use Rattle.hk_world.specs.declared.moment.Act.{Act}
 use Rattle.hk_world.specs.declared.moment.Act.TheVariants.{NotStarted, Executed, Completed}
 use Rattle.ground_history.specs.Histories.{Sent, History}
 use Rattle.ground_history.specs.Evidence.{low, high, is_accepted, is_barred, outcome}
-use Rattle.definition_intervals.specs.Openings.{Candidate, change_by, is_at_most, is_certain, is_possible, candidate, candidates, surely_creates, from_creation, opening}
+use Rattle.pus_messages.specs.Changes.{change_by}
+use Rattle.definition_intervals.specs.Openings.{Candidate, is_at_most, is_certain, is_possible, candidate, candidates, surely_creates, from_creation, opening}
 use Rattle.definition_intervals.specs.States.{state_eq, agreed_states, next_states, reachable_states, is_possible_from}
 use Rattle.hk_base.proofs.Membership.{some_value, IsIn, list_any-IsIn, flat_map-IsIn}
 use Rattle.definition_intervals.proofs.EqualityLemmas.{state_eq-Decides}

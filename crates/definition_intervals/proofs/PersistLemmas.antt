@@ -14,7 +14,8 @@ use Rattle.hk_world.specs.declared.moment.Moment.{Moment}
 use Rattle.hk_world.specs.declared.moment.Act.TheVariants.{NotStarted, Executed, Completed}
 use Rattle.ground_history.specs.Histories.{Sent, History}
 use Rattle.ground_history.specs.Evidence.{low, high, is_accepted, is_barred, outcome}
-use Rattle.definition_intervals.specs.Openings.{Candidate, change_by, is_at_most, is_certain, is_possible, candidate, candidates, is_known, surely_creates, from_creation, opening}
+use Rattle.pus_messages.specs.Changes.{change_by}
+use Rattle.definition_intervals.specs.Openings.{Candidate, is_at_most, is_certain, is_possible, candidate, candidates, is_known, surely_creates, from_creation, opening}
 use Rattle.definition_intervals.proofs.StateLemmas.{structure_by}
 use Rattle.definition_intervals.proofs.KnownFacts.{IsBounded}
 use Rattle.definition_intervals.proofs.CandidateLemmas.{IsChange, change_is, IsFound, found_or_not, made, at_most-some, below_known, some_above, possible_from, IsSetting, opened}

@@ -1,5 +1,5 @@
 -- The verdict in a world in which a request changed the interval before a report was made.
-use Rattle.std.proofs.Common.{◌≡◌, refl, ℕ, List, [], ◌∷◌, Option, None}
+use Rattle.std.proofs.Common.{◌≡◌, refl, ℕ, List, [], ◌∷◌, None}
 use Rattle.hk_base.specs.declared.types.Kind.TheVariants.{Housekeeping}
 use Rattle.hk_base.specs.declared.types.Key.{Key}
 use Rattle.st03_grammar.specs.Instructions.{key_of}

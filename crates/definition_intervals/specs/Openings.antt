@@ -6,10 +6,9 @@ use Rattle.hk_base.specs.TailoringParts.{TailoringParts}
 use Rattle.hk_base.specs.Parameters.{boot_structure, key_eq}
 use Rattle.hk_base.specs.declared.types.Key.{Key}
 use Rattle.hk_base.specs.declared.types.Structure.{Structure}
-use Rattle.st03_grammar.specs.Instructions.{StructureChange, create, changes, redefines}
+use Rattle.st03_grammar.specs.Instructions.{StructureChange, create, redefines}
 use Rattle.st03_grammar.specs.declared.bodies.Report03.TheVariants as hk
-use Rattle.pus_messages.specs.Instructions.{Instruction, on_structure, instructions}
-use Rattle.pus_messages.specs.declared.message.Request.{Request}
+use Rattle.pus_messages.specs.Changes.{change_by}
 use Rattle.pus_messages.specs.declared.message.ReportBody.{ReportBody}
 use Rattle.pus_messages.specs.declared.message.ReportBody.TheVariants.{Hk}
 use Rattle.ground_history.specs.Histories.{Sent, Kept, History, tag_of}
@@ -29,24 +28,6 @@ pub record Opening : Type 0 where
   pub tag : ℕ
   pub state : Option Structure
   pub requests : List Candidate
-
--- the change that an instruction makes of a structure, if it can change it
-abbrev pub change_on : Key → Instruction → Option StructureChange
-change_on key (on_structure named change) = if key_eq named key && changes change then Some change else None
-change_on key _ = None
-
--- the change that a request makes of a structure, with the number of its instruction, from 1
-abbrev pub numbered_change : Key → ℕ × Instruction → Option (ℕ × StructureChange)
-numbered_change key numbered = option_map (λ change. (numbered.0, change)) (change_on key numbered.1)
-
--- the first member of a list
-abbrev pub first_of_list : {X : Type 0} → List X → Option X
-first_of_list [] = None
-first_of_list (x ∷ xs) = Some x
-
--- the change that a request makes of a structure; no request names a structure twice
-abbrev pub change_by : Key → Request → Option (ℕ × StructureChange)
-change_by key r = first_of_list (filter_map (numbered_change key) (enumerate_from 1 (instructions r)))
 
 -- whether a tag is known and no greater than another
 abbrev pub is_at_most : Option ℕ → ℕ → Bool

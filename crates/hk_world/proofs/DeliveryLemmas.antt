@@ -4,12 +4,9 @@ use Rattle.std.specs.Prelude.{slice_get}
 use Rattle.std.specs.List.{AllByRecursion}
 use Rattle.std.proofs.lemmas.Option.{same_Some, none-some}
 use Rattle.hk_world.specs.Timelines.{EachAfter, Session}
-use Rattle.hk_world.specs.Honest.{IsParameterReport, Carries}
+use Rattle.hk_world.specs.Honest.{Carries}
 use Rattle.hk_world.specs.Worlds.{Step, send, happen, deliver, stray, World, IsWorld, IsDelivered, MayHappen, MayStep, moments_of, deliveries_of}
-use Rattle.hk_world.specs.Undisturbed.{IsUnasked, IsUndisturbedStep, IsUndisturbed, SendsReport, IsDeliveredReport, AreDeliveredReports}
 use Rattle.hk_world.specs.declared.moment.Moment.{Moment}
-use Rattle.hk_world.specs.declared.moment.Act.{Act}
-use Rattle.hk_world.specs.declared.moment.Act.TheVariants.{Accepted, TurnedAway, Started, NotStarted, Executed, Completed, Emitted, Filed}
 
 -- what each step lets a moment be holds over the timeline
 pub each_moment : (s : Session) (R : List Moment → Moment → Type 0) → ((earlier : List Moment) (m : Moment) → MayHappen s earlier m → R earlier m) → (steps : List Step) → EachAfter (MayStep s) steps → EachAfter R (moments_of steps)

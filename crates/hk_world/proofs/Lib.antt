@@ -10,4 +10,5 @@ pub mod SentLemmas
 pub mod EndLemmas
 pub mod Example
 pub mod ExecutedExample
+pub mod LongExample
 mod TextRows

@@ -5,4 +5,5 @@ pub mod Honest
 pub mod Worlds
 pub mod Undisturbed
 pub mod Examples
+pub mod LongExample
 pub mod JournalTexts

@@ -1,5 +1,6 @@
 use Rattle.hk_world.proofs.Example.{reporting, reporting_alone, reported_value}
 use Rattle.hk_world.proofs.ExecutedExample.{commanded, commanded_value}
+use Rattle.hk_world.proofs.LongExample as long
 use Rattle.hk_world.proofs.examples.Goals as goal
 
 pub returns-clause-reporting : goal.returns-clause-reporting
@@ -16,3 +17,12 @@ returns-clause-commanded c = commanded
 
 pub returns-clause-changed : goal.returns-clause-changed
 returns-clause-changed c = commanded_value
+
+pub returns-clause-long : goal.returns-clause-long
+returns-clause-long c = long.long
+
+pub returns-clause-first : goal.returns-clause-first
+returns-clause-first c = long.used_first
+
+pub returns-clause-again : goal.returns-clause-again
+returns-clause-again c = long.used_again

@@ -5,7 +5,8 @@ use crate::{
     MessageFault, Reception, Report, ReportBody, Request, changes_on, instructions, read_report,
     read_request, receive, write_report, write_request,
 };
-use hk_base::{BodyFault, Key, Kind, Memory, Octets, Tailoring, builtin};
+use body_fields::BodyFault;
+use hk_base::{Key, Kind, Memory, Octets, Tailoring, builtin};
 use pus_packet::PacketFault;
 use st03_grammar::{Change, Report03};
 use std::alloc::Global;

@@ -1,5 +1,5 @@
 -- The lines that are written for a report.
-use Rattle.std.specs.Prelude.{ℕ, ⊤, ◌-◌, ◌≤◌, ◌^◌, ℤ, List, length, [], ◌∷◌, ◌++◌, flat_map, zip, codes, Option, Some, None, Result, Ok, Err, nat_le, if◌then◌else◌}
+use Rattle.std.specs.Prelude.{ℕ, ◌-◌, ℤ, List, [], ◌∷◌, ◌++◌, flat_map, zip, codes, Option, Some, None, Result, Ok, Err, nat_le, if◌then◌else◌}
 use Rattle.std.specs.Fmt.{decimal, signed_decimal}
 use Rattle.hk_base.specs.TailoringParts.{TailoringParts}
 use Rattle.hk_base.specs.Fit.{slot_of}
@@ -76,11 +76,6 @@ values_block t tag key payload = kind_block t tag key.kind key.id payload
 abbrev pub body_block : TailoringParts → ℕ → ReportBody → Option Block
 body_block t tag (Hk (hk.Values key payload)) = values_block t tag key payload
 body_block t tag _ = None
-
--- the payload of a parameter report isn't longer than a slice may be
-abbrev pub IsSmall : ReportBody → Type 0
-IsSmall (Hk (hk.Values key payload)) = length payload ≤ 2 ^ 31
-IsSmall _ = ⊤
 
 -- the block of what was received
 abbrev pub reception_block : TailoringParts → Reception → Option Block

@@ -2,7 +2,8 @@
 ghost use Rattle.std.specs.Prelude.{◌≡◌, ◌≤◌, ◌^◌, ◌+◌, Some, None, length, IfOk};
 ghost use Rattle.hk_base.specs.Payload.{IsValid};
 ghost use Rattle.session_record.specs.Records.{held_octets};
-ghost use Rattle.hk_replay.specs.Blocks.{IsSmall, packet_block, body_block, values_block, structure_block};
+ghost use Rattle.pus_messages.specs.Spelling.{HasRoom};
+ghost use Rattle.hk_replay.specs.Blocks.{packet_block, body_block, values_block, structure_block};
 ghost use Rattle.hk_replay.specs.Transcripts.{no_lines, with_block, with_entry};
 
 use crate::lines::{write_report, write_values};
@@ -99,7 +100,7 @@ fn with_report(
     before: Transcript,
     report: &Report,
 ) -> Result<Option<Transcript>, Memory>
-    requires { IsSmall report.now.body }
+    requires { HasRoom report.now.body }
     ensures { IfOk result (λ after. after ≡ with_block before (body_block tailoring.now report.now.header.tag report.now.body)) }
 {
     let tag = report.header.tag;

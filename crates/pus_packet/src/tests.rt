@@ -131,16 +131,6 @@ fn join_fault(alloc: Global, tailoring: &Tailoring, body: &[u8]) -> Option<JoinF
     join_tc(alloc, tailoring, &REQUEST, body).err()
 }
 
-/// Why the report and this body can't be joined.
-fn report_join_fault(alloc: Global, tailoring: &Tailoring, body: &[u8]) -> Option<JoinFault>
-    requires { length body.now ≤ 2 ^ 31 }
-{
-    if greatest_tag(tailoring) < REPORT.tag {
-        return None;
-    }
-    join_tm(alloc, tailoring, &REPORT, body).err()
-}
-
 #[test]
 fn a_packet_has_at_most_65542_octets(rt: HostRuntime) -> Result<(), Fail> {
     let alloc = rt.alloc();
@@ -151,11 +141,6 @@ fn a_packet_has_at_most_65542_octets(rt: HostRuntime) -> Result<(), Fail> {
         Some(JoinFault::TooLong(65543))
     );
     assert_eq!(rt; join_fault(alloc, &plain, &body[1..]), None);
-    assert_eq!(rt;
-        report_join_fault(alloc, &plain, &body[8..]),
-        Some(JoinFault::TooLong(65543))
-    );
-    assert_eq!(rt; report_join_fault(alloc, &plain, &body[9..]), None);
     Ok(())
 }
 

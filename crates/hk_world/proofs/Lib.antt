@@ -1,6 +1,7 @@
 pub mod WorldLemmas
 pub mod DeliveryLemmas
 pub mod UndisturbedLemmas
+pub mod PacketLemmas
 pub mod OrderLemmas
 pub mod TimelineLemmas
 pub mod RequestLemmas

@@ -1,10 +1,16 @@
 -- Worlds in which nothing is commanded: the board files samples and reports parameters, and the ground listens.
-use Rattle.std.specs.Prelude.{◌≡◌, ℕ, ◌<◌, ◌≤◌, ⊤, List, ◌++◌, slice_get, Some, IsTrue, IsFalse}
+use Rattle.std.specs.Prelude.{◌≡◌, ℕ, ◌<◌, ◌≤◌, ⊤, List, ◌++◌, length, take, drop, slice_get, Some, Ok, IsTrue, IsFalse}
 use Rattle.std.specs.List.{AllByRecursion}
+use Rattle.hk_base.specs.Fields.{number_of}
+use Rattle.hk_base.specs.TailoringParts.{TailoringParts}
 use Rattle.hk_base.specs.declared.types.Key.{Key}
 use Rattle.hk_base.specs.declared.types.Kind.TheVariants.{Housekeeping}
+use Rattle.pus_packet.specs.Packets.{split_report}
+use Rattle.pus_packet.specs.declared.header.TmHeader.{TmHeader}
 use Rattle.st03_grammar.specs.Instructions.{key_of}
 use Rattle.st03_grammar.specs.declared.bodies.Report03.TheVariants as hk
+use Rattle.pus_messages.specs.Protocol.{readable}
+use Rattle.pus_messages.specs.Messages.{reception}
 use Rattle.pus_messages.specs.declared.message.ReportBody.TheVariants.{Hk}
 use Rattle.hk_world.specs.Timelines.{EachAfter, Session}
 use Rattle.hk_world.specs.Honest.{IsReport, IsParameterReport}
@@ -63,3 +69,21 @@ pub record IsDeliveredReport (s : Session) (moments : List Moment) (m : Moment) 
 pub record AreDeliveredReports (s : Session) (moments delivered : List Moment) : Type 0 where
   pub each : AllByRecursion (IsDeliveredReport s moments) delivered
   pub order : AreInOrder delivered
+
+-- Octets are the packet of a housekeeping parameter report of the process: its body begins with the ID of a structure, and the payload is the rest.
+pub record IsParameterPacket (t : TailoringParts) (packet : List ℕ) (h : TmHeader) (id : ℕ) (payload : List ℕ) : Type 0 where
+  pub body : List ℕ
+  pub split : split_report t packet ≡ Ok (h, body)
+  pub process : h.apid ≡ t.widths.apid
+  pub service : h.service ≡ 3
+  pub subtype : h.subtype ≡ 25
+  pub size : t.widths.structure_octets ≤ length body
+  pub id_is : number_of (take t.widths.structure_octets body) ≡ id
+  pub payload_is : drop t.widths.structure_octets body ≡ payload
+
+-- what is received as a housekeeping parameter report is the packet of it
+abbrev pub ParameterPacketsAreRead : Type 0
+ParameterPacketsAreRead =
+    (t : TailoringParts) (packet : List ℕ) (h : TmHeader) (id : ℕ) (payload : List ℕ)
+    → reception t packet ≡ readable (record { header = h; body = Hk (hk.Values (housekeeping id) payload) })
+    → IsParameterPacket t packet h id payload

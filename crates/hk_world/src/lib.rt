@@ -9,7 +9,7 @@ ghost use Rattle.st03_grammar.specs.Instructions.{key_of};
 ghost use Rattle.hk_world.specs.Legal.{IsLegal};
 ghost use Rattle.hk_world.specs.Honest.{IsHonest};
 ghost use Rattle.hk_world.specs.Worlds.{World, Step, IsWorld, IsDelivered, IsTrueValue, moments_of, deliveries_of};
-ghost use Rattle.hk_world.specs.Undisturbed.{IsUndisturbed, AreDeliveredReports};
+ghost use Rattle.hk_world.specs.Undisturbed.{IsUndisturbed, AreDeliveredReports, ParameterPacketsAreRead};
 ghost use Rattle.hk_world.specs.Examples.{reporting_world, commanded_world};
 ghost use Rattle.hk_world.specs.LongExample.{enabling_packet, long_session, long_world};
 
@@ -28,6 +28,12 @@ pub fn worlds()
     ensures honest { (w : World) → IsWorld w → IsHonest w.session (moments_of w.steps) }
     ensures delivered { (w : World) → IsWorld w → AllByRecursion (IsDelivered w.session (moments_of w.steps)) (deliveries_of w.steps) }
     ensures undisturbed { (w : World) → IsWorld w → IsUndisturbed w → AreDeliveredReports w.session (moments_of w.steps) (deliveries_of w.steps) }
+{}
+
+/// What is received as a housekeeping parameter report, message type [3,25], is the packet of it: its headers, the ID of a
+/// structure and the payload.
+pub fn parameter_packets()
+    ensures { ParameterPacketsAreRead }
 {}
 
 /// There are worlds: one in which nothing is commanded, one in which a request changes the interval of a structure before it

@@ -5,3 +5,5 @@ pub mod ReadingLemmas
 pub mod WritingLemmas
 pub mod ChangeLemmas
 mod WordRows
+pub mod FoundLemmas
+pub mod BoundLemmas

@@ -32,23 +32,39 @@ use Rattle.pus_messages.specs.declared.message.ReportBody.TheVariants as tell
 use Rattle.pus_messages.specs.declared.message.MessageFault.{MessageFault}
 use Rattle.pus_messages.specs.declared.message.MessageFault.TheVariants.{Packet, Unknown, Body}
 
--- values of a service that are read from their spelling under their subtype, and from no other octets
-pub record IsSpelled {V : Type 0} (read : ℕ → List ℕ → Option (Result V BodyFault)) (subtype : V → ℕ) (spell : V → List ℕ) (IsOf : V → Type 0) : Type 0 where
-  pub again : (v : V) → IsOf v → read (subtype v) (spell v) ≡ Some (Ok v)
-  pub only : (number : ℕ) (octets : List ℕ) (v : V) → AreOctets octets → read number octets ≡ Some (Ok v) → (number ≡ subtype v) × (octets ≡ spell v) × IsOf v
+-- values of a service are read from their spelling under their subtype
+abbrev pub AreReadAgain : {V : Type 0} → (ℕ → List ℕ → Option (Result V BodyFault)) → (V → ℕ) → (V → List ℕ) → (V → Type 0) → Type 0
+AreReadAgain {V} read subtype spell IsOf = (v : V) → IsOf v → read (subtype v) (spell v) ≡ Some (Ok v)
 
--- the requests of each service are spelled
-pub record RequestsAreSpelled (t : TailoringParts) : Type 0 where
-  pub housekeeping : IsSpelled (st03_bodies.request_body t) st03.request_subtype (st03.request_octets t) (st03.IsRequest03 t)
-  pub statistics : IsSpelled (st04_bodies.request_body t) st04.request_subtype (st04.request_octets t) (st04.IsRequest t)
-  pub values : IsSpelled (st20_bodies.request_body t) st20.request_subtype (st20.request_octets t) (st20.IsRequest t)
+-- values of a service are read from no other octets
+abbrev pub AreReadOnly : {V : Type 0} → (ℕ → List ℕ → Option (Result V BodyFault)) → (V → ℕ) → (V → List ℕ) → (V → Type 0) → Type 0
+AreReadOnly {V} read subtype spell IsOf = (number : ℕ) (octets : List ℕ) (v : V) → AreOctets octets → read number octets ≡ Some (Ok v) → (number ≡ subtype v) × (octets ≡ spell v) × IsOf v
 
--- the reports of each service are spelled
-pub record ReportsAreSpelled (t : TailoringParts) : Type 0 where
-  pub verification : IsSpelled (st01_bodies.report_body t) st01.subtype (st01.verification_octets t) (st01.IsVerification t)
-  pub housekeeping : IsSpelled (st03_bodies.report_body t) st03.report_subtype (st03.report_octets t) (st03.IsReport03 t)
-  pub statistics : IsSpelled (st04_bodies.report_body t) st04.report_subtype (st04.report_octets t) (st04.IsReport t)
-  pub values : IsSpelled (st20_bodies.report_body t) (λ r. st20.report_subtype) (st20.report_octets t) (st20.IsReport t)
+-- the requests of each service are read from their spelling
+pub record RequestsAgain (t : TailoringParts) : Type 0 where
+  pub housekeeping : AreReadAgain (st03_bodies.request_body t) st03.request_subtype (st03.request_octets t) (st03.IsRequest03 t)
+  pub statistics : AreReadAgain (st04_bodies.request_body t) st04.request_subtype (st04.request_octets t) (st04.IsRequest t)
+  pub values : AreReadAgain (st20_bodies.request_body t) st20.request_subtype (st20.request_octets t) (st20.IsRequest t)
+
+-- the requests of each service are read from no other octets
+pub record RequestsOnly (t : TailoringParts) : Type 0 where
+  pub housekeeping : AreReadOnly (st03_bodies.request_body t) st03.request_subtype (st03.request_octets t) (st03.IsRequest03 t)
+  pub statistics : AreReadOnly (st04_bodies.request_body t) st04.request_subtype (st04.request_octets t) (st04.IsRequest t)
+  pub values : AreReadOnly (st20_bodies.request_body t) st20.request_subtype (st20.request_octets t) (st20.IsRequest t)
+
+-- the reports of each service are read from their spelling
+pub record ReportsAgain (t : TailoringParts) : Type 0 where
+  pub verification : AreReadAgain (st01_bodies.report_body t) st01.subtype (st01.verification_octets t) (st01.IsVerification t)
+  pub housekeeping : AreReadAgain (st03_bodies.report_body t) st03.report_subtype (st03.report_octets t) (st03.IsReport03 t)
+  pub statistics : AreReadAgain (st04_bodies.report_body t) st04.report_subtype (st04.report_octets t) (st04.IsReport t)
+  pub values : AreReadAgain (st20_bodies.report_body t) (λ r. st20.report_subtype) (st20.report_octets t) (st20.IsReport t)
+
+-- the reports of each service are read from no other octets
+pub record ReportsOnly (t : TailoringParts) : Type 0 where
+  pub verification : AreReadOnly (st01_bodies.report_body t) st01.subtype (st01.verification_octets t) (st01.IsVerification t)
+  pub housekeeping : AreReadOnly (st03_bodies.report_body t) st03.report_subtype (st03.report_octets t) (st03.IsReport03 t)
+  pub statistics : AreReadOnly (st04_bodies.report_body t) st04.report_subtype (st04.report_octets t) (st04.IsReport t)
+  pub values : AreReadOnly (st20_bodies.report_body t) (λ r. st20.report_subtype) (st20.report_octets t) (st20.IsReport t)
 
 -- octets are the spelling of a body under its service and subtype
 record IsBody {B : Type 0} (kind : B → ℕ × ℕ) (spell : B → List ℕ) (IsOf : B → Type 0) (service number : ℕ) (octets : List ℕ) (b : B) : Type 0 where
@@ -80,18 +96,18 @@ from_body make P None b h e = absurd (none-some (Ok b) e)
 from_body make P (Some (Err fault)) b h e = absurd (err-ok fault b (same_Some (Err fault) (Ok b) e))
 from_body make P (Some (Ok v)) b h e = subst P (same_Ok (make v) b (same_Some (Ok (make v)) (Ok b) e)) (h v refl)
 
-request_body-again : (t : TailoringParts) → RequestsAreSpelled t → (b : RequestBody) → IsRequestBody t b → request_body t (request_type b).0 (request_type b).1 (request_body_octets t b) ≡ Some (Ok b)
-request_body-again t known (ask.Hk r) is = ap (as_body ask.Hk) (known.housekeeping.again r is)
-request_body-again t known (ask.Stat r) is = ap (as_body ask.Stat) (known.statistics.again r is)
-request_body-again t known (ask.Par r) is = ap (as_body ask.Par) (known.values.again r is)
+request_body-again : (t : TailoringParts) → RequestsAgain t → (b : RequestBody) → IsRequestBody t b → request_body t (request_type b).0 (request_type b).1 (request_body_octets t b) ≡ Some (Ok b)
+request_body-again t known (ask.Hk r) is = ap (as_body ask.Hk) (known.housekeeping r is)
+request_body-again t known (ask.Stat r) is = ap (as_body ask.Stat) (known.statistics r is)
+request_body-again t known (ask.Par r) is = ap (as_body ask.Par) (known.values r is)
 
-report_body-again : (t : TailoringParts) → ReportsAreSpelled t → (b : ReportBody) → IsReportBody t b → report_body t (report_type b).0 (report_type b).1 (report_body_octets t b) ≡ Some (Ok b)
-report_body-again t known (tell.Verify r) is = ap (as_body tell.Verify) (known.verification.again r is)
-report_body-again t known (tell.Hk r) is = ap (as_body tell.Hk) (known.housekeeping.again r is)
-report_body-again t known (tell.Stat r) is = ap (as_body tell.Stat) (known.statistics.again r is)
-report_body-again t known (tell.Par r) is = ap (as_body tell.Par) (known.values.again r is)
+report_body-again : (t : TailoringParts) → ReportsAgain t → (b : ReportBody) → IsReportBody t b → report_body t (report_type b).0 (report_type b).1 (report_body_octets t b) ≡ Some (Ok b)
+report_body-again t known (tell.Verify r) is = ap (as_body tell.Verify) (known.verification r is)
+report_body-again t known (tell.Hk r) is = ap (as_body tell.Hk) (known.housekeeping r is)
+report_body-again t known (tell.Stat r) is = ap (as_body tell.Stat) (known.statistics r is)
+report_body-again t known (tell.Par r) is = ap (as_body tell.Par) (known.values r is)
 
-request_body-only : (t : TailoringParts) → RequestsAreSpelled t → (service number : ℕ) (octets : List ℕ) (b : RequestBody) → AreOctets octets → request_body t service number octets ≡ Some (Ok b)
+request_body-only : (t : TailoringParts) → RequestsOnly t → (service number : ℕ) (octets : List ℕ) (b : RequestBody) → AreOctets octets → request_body t service number octets ≡ Some (Ok b)
     → IsRequestSpelling t service number octets b
 request_body-only t known service number octets b are e = go (service == 3) refl (service == 4) refl (service == 20) refl e
   where
@@ -106,16 +122,16 @@ request_body-only t known service number octets b are e = go (service == 3) refl
         → IsRequestSpelling t service number octets b
     go true p y q z r e =
         from_body ask.Hk P (st03_bodies.request_body t number octets) b
-        (λ v f. let is = known.housekeeping.only number octets v are f in record { service_is = eqb-true service 3 p; number_is = is.0; spelling = is.1; is_of = is.2 }) e
+        (λ v f. let is = known.housekeeping number octets v are f in record { service_is = eqb-true service 3 p; number_is = is.0; spelling = is.1; is_of = is.2 }) e
     go false p true q z r e =
         from_body ask.Stat P (st04_bodies.request_body t number octets) b
-        (λ v f. let is = known.statistics.only number octets v are f in record { service_is = eqb-true service 4 q; number_is = is.0; spelling = is.1; is_of = is.2 }) e
+        (λ v f. let is = known.statistics number octets v are f in record { service_is = eqb-true service 4 q; number_is = is.0; spelling = is.1; is_of = is.2 }) e
     go false p false q true r e =
         from_body ask.Par P (st20_bodies.request_body t number octets) b
-        (λ v f. let is = known.values.only number octets v are f in record { service_is = eqb-true service 20 r; number_is = is.0; spelling = is.1; is_of = is.2 }) e
+        (λ v f. let is = known.values number octets v are f in record { service_is = eqb-true service 20 r; number_is = is.0; spelling = is.1; is_of = is.2 }) e
     go false p false q false r e = absurd (none-some (Ok b) e)
 
-report_body-only : (t : TailoringParts) → ReportsAreSpelled t → (service number : ℕ) (octets : List ℕ) (b : ReportBody) → AreOctets octets → report_body t service number octets ≡ Some (Ok b)
+report_body-only : (t : TailoringParts) → ReportsOnly t → (service number : ℕ) (octets : List ℕ) (b : ReportBody) → AreOctets octets → report_body t service number octets ≡ Some (Ok b)
     → IsReportSpelling t service number octets b
 report_body-only t known service number octets b are e = go (service == 1) refl (service == 3) refl (service == 4) refl (service == 20) refl e
   where
@@ -131,16 +147,16 @@ report_body-only t known service number octets b are e = go (service == 1) refl 
         → IsReportSpelling t service number octets b
     go true o x p y q z r e =
         from_body tell.Verify P (st01_bodies.report_body t number octets) b
-        (λ v f. let is = known.verification.only number octets v are f in record { service_is = eqb-true service 1 o; number_is = is.0; spelling = is.1; is_of = is.2 }) e
+        (λ v f. let is = known.verification number octets v are f in record { service_is = eqb-true service 1 o; number_is = is.0; spelling = is.1; is_of = is.2 }) e
     go false o true p y q z r e =
         from_body tell.Hk P (st03_bodies.report_body t number octets) b
-        (λ v f. let is = known.housekeeping.only number octets v are f in record { service_is = eqb-true service 3 p; number_is = is.0; spelling = is.1; is_of = is.2 }) e
+        (λ v f. let is = known.housekeeping number octets v are f in record { service_is = eqb-true service 3 p; number_is = is.0; spelling = is.1; is_of = is.2 }) e
     go false o false p true q z r e =
         from_body tell.Stat P (st04_bodies.report_body t number octets) b
-        (λ v f. let is = known.statistics.only number octets v are f in record { service_is = eqb-true service 4 q; number_is = is.0; spelling = is.1; is_of = is.2 }) e
+        (λ v f. let is = known.statistics number octets v are f in record { service_is = eqb-true service 4 q; number_is = is.0; spelling = is.1; is_of = is.2 }) e
     go false o false p false q true r e =
         from_body tell.Par P (st20_bodies.report_body t number octets) b
-        (λ v f. let is = known.values.only number octets v are f in record { service_is = eqb-true service 20 r; number_is = is.0; spelling = is.1; is_of = is.2 }) e
+        (λ v f. let is = known.values number octets v are f in record { service_is = eqb-true service 20 r; number_is = is.0; spelling = is.1; is_of = is.2 }) e
     go false o false p false q false r e = absurd (none-some (Ok b) e)
 
 -- what holds of each message that is made of a body that is read holds of the message
@@ -209,7 +225,7 @@ CommandsAreSpelled t = (h : TcHeader) (body octets : List ℕ) → joining.AreOc
 abbrev pub PacketsAreSpelled : TailoringParts → Type 0
 PacketsAreSpelled t = (h : TmHeader) (body octets : List ℕ) → joining.AreOctets octets → SplitsToReport t octets h body ↔ joining.IsReportPacket t.widths.tm_checksum (time_octets t) h body octets
 
-pub request-again : (t : TailoringParts) → CommandsAreSpelled t → RequestsAreSpelled t → (r : Request) (octets : List ℕ) → AreOctets octets → IsRequestPacket t r octets → request_of t octets ≡ Ok r
+pub request-again : (t : TailoringParts) → CommandsAreSpelled t → RequestsAgain t → (r : Request) (octets : List ℕ) → AreOctets octets → IsRequestPacket t r octets → request_of t octets ≡ Ok r
 request-again t packets known r octets are is =
     let o = request_body_octets t r.body in
     let split : SplitsToCommand t octets r.header o = (packets r.header o octets (at_places octets are)).1 (record { headers = is.message.headers; spelling = is.spelling; size = is.size }) in
@@ -217,7 +233,7 @@ request-again t packets known r octets are is =
     ap (λ s. request_body t s r.header.subtype o) is.message.service ∙ (ap (λ n. request_body t (request_type r.body).0 n o) is.message.subtype ∙ request_body-again t known r.body is.message.body) in
     ap (request_in t) split ∙ ap (message make_request r.header r.header.service r.header.subtype) read
 
-pub report-again : (t : TailoringParts) → PacketsAreSpelled t → ReportsAreSpelled t → (r : Report) (octets : List ℕ) → AreOctets octets → IsReportMessage t r octets → report_of t octets ≡ Ok r
+pub report-again : (t : TailoringParts) → PacketsAreSpelled t → ReportsAgain t → (r : Report) (octets : List ℕ) → AreOctets octets → IsReportMessage t r octets → report_of t octets ≡ Ok r
 report-again t packets known r octets are is =
     let o = report_body_octets t r.body in
     let split : SplitsToReport t octets r.header o = (packets r.header o octets (at_places octets are)).1 (record { headers = is.message.headers; spelling = is.spelling; size = is.size }) in
@@ -225,7 +241,7 @@ report-again t packets known r octets are is =
     ap (λ s. report_body t s r.header.subtype o) is.message.service ∙ (ap (λ n. report_body t (report_type r.body).0 n o) is.message.subtype ∙ report_body-again t known r.body is.message.body) in
     ap (report_in t) split ∙ ap (message make_report r.header r.header.service r.header.subtype) read
 
-pub request-only : (t : TailoringParts) → CommandsAreSpelled t → RequestsAreSpelled t → (r : Request) (octets : List ℕ) → AreOctets octets → request_of t octets ≡ Ok r → IsRequestPacket t r octets
+pub request-only : (t : TailoringParts) → CommandsAreSpelled t → RequestsOnly t → (r : Request) (octets : List ℕ) → AreOctets octets → request_of t octets ≡ Ok r → IsRequestPacket t r octets
 request-only t packets known r octets are e = from_request t (λ q. IsRequestPacket t q octets) (split_command t octets) r made e
   where
     made : (h : TcHeader) (o : List ℕ) (b : RequestBody) → split_command t octets ≡ Ok (h, o) → request_body t h.service h.subtype o ≡ Some (Ok b) → IsRequestPacket t (make_request h b) octets
@@ -238,7 +254,7 @@ request-only t packets known r octets are e = from_request t (λ q. IsRequestPac
           size = packet.size;
         }
 
-pub report-only : (t : TailoringParts) → PacketsAreSpelled t → ReportsAreSpelled t → (r : Report) (octets : List ℕ) → AreOctets octets → report_of t octets ≡ Ok r → IsReportMessage t r octets
+pub report-only : (t : TailoringParts) → PacketsAreSpelled t → ReportsOnly t → (r : Report) (octets : List ℕ) → AreOctets octets → report_of t octets ≡ Ok r → IsReportMessage t r octets
 report-only t packets known r octets are e = from_report t (λ q. IsReportMessage t q octets) (split_report t octets) r made e
   where
     made : (h : TmHeader) (o : List ℕ) (b : ReportBody) → split_report t octets ≡ Ok (h, o) → report_body t h.service h.subtype o ≡ Some (Ok b) → IsReportMessage t (make_report h b) octets

@@ -1,4 +1,4 @@
-ghost use Rattle.std.specs.Prelude.{◌≡◌, ◌↔◌, ℕ, List, Ok};
+ghost use Rattle.std.specs.Prelude.{◌≡◌, ℕ, List, Ok};
 ghost use Rattle.hk_base.specs.TailoringParts.{TailoringParts};
 ghost use Rattle.hk_base.specs.Fit.{IsFit};
 ghost use Rattle.hk_base.specs.Spelling.{AreOctets};
@@ -19,7 +19,8 @@ pub fn protocols()
 
 /// A request of the grammar is read from its packet, and from no other octets.
 pub fn requests_are_spelled()
-    ensures { (t : TailoringParts) (r : Request) (octets : List ℕ) → IsFit t → AreOctets octets → (request_of t octets ≡ Ok r) ↔ IsRequestPacket t r octets }
+    ensures again { (t : TailoringParts) (r : Request) (octets : List ℕ) → IsFit t → AreOctets octets → IsRequestPacket t r octets → request_of t octets ≡ Ok r }
+    ensures only { (t : TailoringParts) (r : Request) (octets : List ℕ) → AreOctets octets → request_of t octets ≡ Ok r → IsRequestPacket t r octets }
 {
     packets();
     st03_grammar::requests_are_spelled();
@@ -29,7 +30,8 @@ pub fn requests_are_spelled()
 
 /// A report of the grammar is read from its packet, and from no other octets.
 pub fn reports_are_spelled()
-    ensures { (t : TailoringParts) (r : Report) (octets : List ℕ) → IsFit t → AreOctets octets → (report_of t octets ≡ Ok r) ↔ IsReportPacket t r octets }
+    ensures again { (t : TailoringParts) (r : Report) (octets : List ℕ) → IsFit t → AreOctets octets → IsReportPacket t r octets → report_of t octets ≡ Ok r }
+    ensures only { (t : TailoringParts) (r : Report) (octets : List ℕ) → AreOctets octets → report_of t octets ≡ Ok r → IsReportPacket t r octets }
 {
     packets();
     st01_reports::reports_are_spelled();

@@ -8,14 +8,18 @@ ghost use Rattle.pus_messages.specs.declared.message.RequestBody.TheVariants as 
 ghost use Rattle.pus_messages.specs.declared.message.ReportBody.TheVariants as tell;
 ghost use Rattle.pus_messages.specs.Messages as messages;
 ghost use Rattle.pus_messages.specs.Messages.{as_body, request_of, report_of};
+ghost use Rattle.pus_messages.specs.Instructions.{instructions};
+ghost use Rattle.pus_messages.specs.Names.{NamesApart};
+ghost use Rattle.pus_messages.specs.Spelling.{IsRequestPacket, IsReportPacket};
 ghost use Rattle.pus_messages.specs.Outcomes.{Gives, typed_body};
 
+use crate::laws::{protocols, reports_are_spelled, requests_are_spelled};
 use crate::message::{MessageFault, Report, ReportBody, Request, RequestBody};
 use hk_base::Tailoring;
 use pus_packet::{split_tc, split_tm};
 use std::alloc::Global;
 
-/// The request that octets are, or their first fault.
+/// The request that octets are, or their first fault. It has at most 255 instructions and names no structure twice.
 pub fn read_request(
     alloc: Global,
     tailoring: &Tailoring,
@@ -23,10 +27,13 @@ pub fn read_request(
 ) -> Result<Request, MessageFault>
     requires size { length bytes.now ≤ 2 ^ 31 }
     ensures gives { Gives (λ request. request) result (request_of tailoring.now bytes.now) }
+    ensures found { IfOk result (λ request. IsRequestPacket tailoring.now request bytes.now) }
+    ensures few { IfOk result (λ request. length (instructions request) ≤ 255) }
+    ensures apart { IfOk result (λ request. NamesApart request.body) }
 {
-    let (header, octets) = split_tc(tailoring, bytes)?;
-    let body = read_request_body(alloc, tailoring, header.service, header.subtype, octets)?;
-    Ok(Request { header, body })
+    requests_are_spelled();
+    protocols();
+    request_in(alloc, tailoring, bytes)
 }
 
 /// The report that octets are, or their first fault.
@@ -35,6 +42,24 @@ pub fn read_report(
     tailoring: &Tailoring,
     bytes: &[u8],
 ) -> Result<Report, MessageFault>
+    requires size { length bytes.now ≤ 2 ^ 31 }
+    ensures gives { Gives (λ report. report) result (report_of tailoring.now bytes.now) }
+    ensures found { IfOk result (λ report. IsReportPacket tailoring.now report bytes.now) }
+{
+    reports_are_spelled();
+    report_in(alloc, tailoring, bytes)
+}
+
+fn request_in(alloc: Global, tailoring: &Tailoring, bytes: &[u8]) -> Result<Request, MessageFault>
+    requires size { length bytes.now ≤ 2 ^ 31 }
+    ensures gives { Gives (λ request. request) result (request_of tailoring.now bytes.now) }
+{
+    let (header, octets) = split_tc(tailoring, bytes)?;
+    let body = read_request_body(alloc, tailoring, header.service, header.subtype, octets)?;
+    Ok(Request { header, body })
+}
+
+fn report_in(alloc: Global, tailoring: &Tailoring, bytes: &[u8]) -> Result<Report, MessageFault>
     requires size { length bytes.now ≤ 2 ^ 31 }
     ensures gives { Gives (λ report. report) result (report_of tailoring.now bytes.now) }
 {

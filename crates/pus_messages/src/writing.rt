@@ -1,10 +1,10 @@
 //! Messages are written as the octets of their packets.
-ghost use Rattle.std.specs.Prelude.{◌≡◌, ◌≤◌, ◌^◌, ◌++◌, length, OnOk, OnErr};
-ghost use Rattle.pus_messages.specs.Spelling.{IsRequest, IsReport, IsRequestBody, IsReportBody, request_octets, report_octets, request_body_octets, report_body_octets};
+ghost use Rattle.std.specs.Prelude.{◌≡◌, ◌≤◌, ◌^◌, ◌++◌, length, IfOk, OnOk};
+ghost use Rattle.pus_messages.specs.Spelling.{IsRequest, IsReport, IsRequestBody, IsReportBody, HasRoom, request_octets, report_octets, request_body_octets, report_body_octets};
 ghost use Rattle.pus_messages.specs.Outcomes.{Writes};
 
 use crate::message::{Report, ReportBody, Request, RequestBody};
-use hk_base::{Memory, Octets, Tailoring};
+use hk_base::{Items, Memory, Octets, Tailoring};
 use pus_packet::{JoinFault, join_tc, join_tm};
 use std::alloc::Global;
 
@@ -14,13 +14,11 @@ pub fn write_request(
     tailoring: &Tailoring,
     request: &Request,
 ) -> Result<Octets, JoinFault>
-    requires message { IsRequest tailoring.now request.now }
-    requires size { length (request_body_octets tailoring.now request.now.body) ≤ 2 ^ 31 }
+    requires { IsRequest tailoring.now request.now }
     ensures { Writes (request_octets tailoring.now request.now) result }
 {
-    let mut body = Vec::new(alloc);
-    write_request_body(tailoring, &request.body, &mut body)?;
-    join_tc(alloc, tailoring, &request.header, &body)
+    let body = request_body(alloc, tailoring, &request.body)?;
+    join_tc(alloc, tailoring, &request.header, body.as_slice())
 }
 
 /// The packet of a report of the grammar, whose headers name the type of its body.
@@ -30,12 +28,36 @@ pub fn write_report(
     report: &Report,
 ) -> Result<Octets, JoinFault>
     requires message { IsReport tailoring.now report.now }
-    requires size { length (report_body_octets tailoring.now report.now.body) ≤ 2 ^ 31 }
+    requires room { HasRoom report.now.body }
     ensures { Writes (report_octets tailoring.now report.now) result }
 {
-    let mut body = Vec::new(alloc);
-    write_report_body(tailoring, &report.body, &mut body)?;
-    join_tm(alloc, tailoring, &report.header, &body)
+    let body = report_body(alloc, tailoring, &report.body)?;
+    join_tm(alloc, tailoring, &report.header, body.as_slice())
+}
+
+/// The octets of a request's body.
+fn request_body(alloc: Global, tailoring: &Tailoring, body: &RequestBody) -> Result<Octets, Memory>
+    requires { IsRequestBody tailoring.now body.now }
+    ensures octets { IfOk result (λ octets. octets ≡ request_body_octets tailoring.now body.now) }
+    ensures short { IfOk result (λ octets. length octets ≤ 2 ^ 31) }
+{
+    let _fit = tailoring.widths();
+    let mut out = Vec::new(alloc);
+    write_request_body(tailoring, body, &mut out)?;
+    Ok(Items::from_vec(out))
+}
+
+/// The octets of a report's body.
+fn report_body(alloc: Global, tailoring: &Tailoring, body: &ReportBody) -> Result<Octets, Memory>
+    requires body { IsReportBody tailoring.now body.now }
+    requires room { HasRoom body.now }
+    ensures octets { IfOk result (λ octets. octets ≡ report_body_octets tailoring.now body.now) }
+    ensures short { IfOk result (λ octets. length octets ≤ 2 ^ 31) }
+{
+    let _fit = tailoring.widths();
+    let mut out = Vec::new(alloc);
+    write_report_body(tailoring, body, &mut out)?;
+    Ok(Items::from_vec(out))
 }
 
 /// Appends the body of a request.

@@ -1,17 +1,9 @@
-use Rattle.std.proofs.lemmas.Result.{err_from_is_err_and}
-use Rattle.pus_messages.proofs.ReadingLemmas.{report-read, report-failed}
+use Rattle.std.proofs.Common.{arith}
+use Rattle.hk_base.proofs.BodyLemmas.{octets_below}
+use Rattle.pus_messages.proofs.FoundLemmas.{report-found}
 use Rattle.pus_messages.proofs.reading.read_report.Goals as goal
 
-pub returns-in_err-body : goal.returns-in_err-body
-returns-in_err-body c =
-    let p = err_from_is_err_and c.from_residual-in_err-body.result c.from_residual-in_err-body.ensures.1 in
-    record {
-      gives = rw (p.1, p.2)
-          (report-failed c.args.tailoring.now c.args.bytes.now c.in_ok-header.header c.in_ok-header.octets.now c.in_err-body.field-0.0 c.in_ok-header.ensures.gives c.in_err-body.ensures.gives);
-    }
-
-pub returns : goal.returns
-returns c =
-    record {
-      gives = report-read c.args.tailoring.now c.args.bytes.now c.in_ok-header.header c.in_ok-header.octets.now c.in_ok-body.body c.in_ok-header.ensures.gives c.in_ok-body.ensures.gives;
-    }
+pub returns-clause-found : goal.returns-clause-found
+returns-clause-found c =
+    report-found c.args.tailoring.now c.args.bytes.now c.report_in.result (octets_below c.args.bytes.now (λ i. omega (arith, c.type_inv.bytes i)))
+    (c.reports_are_spelled.ensures.only c.args.tailoring.now) c.report_in.ensures.gives

@@ -1,17 +1,17 @@
-use Rattle.std.proofs.lemmas.Result.{err_from_is_err_and}
-use Rattle.pus_messages.proofs.ReadingLemmas.{request-read, request-failed}
+use Rattle.std.proofs.Common.{arith}
+use Rattle.hk_base.proofs.BodyLemmas.{octets_below}
+use Rattle.pus_messages.proofs.FoundLemmas.{request-found, request-few, request-apart}
 use Rattle.pus_messages.proofs.reading.read_request.Goals as goal
 
-pub returns-in_err-body : goal.returns-in_err-body
-returns-in_err-body c =
-    let p = err_from_is_err_and c.from_residual-in_err-body.result c.from_residual-in_err-body.ensures.1 in
-    record {
-      gives = rw (p.1, p.2)
-          (request-failed c.args.tailoring.now c.args.bytes.now c.in_ok-header.header c.in_ok-header.octets.now c.in_err-body.field-0.0 c.in_ok-header.ensures.gives c.in_err-body.ensures.gives);
-    }
+pub returns-clause-found : goal.returns-clause-found
+returns-clause-found c =
+    request-found c.args.tailoring.now c.args.bytes.now c.request_in.result (octets_below c.args.bytes.now (λ i. omega (arith, c.type_inv.bytes i)))
+    (c.requests_are_spelled.ensures.only c.args.tailoring.now) c.request_in.ensures.gives
 
-pub returns : goal.returns
-returns c =
-    record {
-      gives = request-read c.args.tailoring.now c.args.bytes.now c.in_ok-header.header c.in_ok-header.octets.now c.in_ok-body.body c.in_ok-header.ensures.gives c.in_ok-body.ensures.gives;
-    }
+pub returns-clause-few : goal.returns-clause-few
+returns-clause-few c =
+    request-few c.args.tailoring.now c.args.bytes.now c.request_in.result (octets_below c.args.bytes.now (λ i. omega (arith, c.type_inv.bytes i)))
+    (c.requests_are_spelled.ensures.only c.args.tailoring.now) c.request_in.ensures.gives
+
+pub returns-clause-apart : goal.returns-clause-apart
+returns-clause-apart c = request-apart c.args.tailoring.now c.args.bytes.now c.request_in.result (c.protocols.ensures.names c.args.tailoring.now) c.request_in.ensures.gives

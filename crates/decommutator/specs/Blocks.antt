@@ -68,7 +68,8 @@ stat_line t r =
     ++ (codes " min "
     ++ (signed_decimal r.min
     ++ (codes " at "
-    ++ (decimal r.min_time ++ (codes " mean " ++ (signed_decimal r.mean ++ (codes " scale " ++ (decimal (256 ^ t.widths.mean_fraction) ++ line_end)))))))))))))))
+    ++ (decimal r.min_time
+    ++ (codes " mean " ++ (signed_decimal r.mean ++ (codes " scale " ++ (decimal (256 ^ t.widths.mean_fraction) ++ line_end)))))))))))))))
 
 -- the block of a statistics report
 abbrev pub statistics_lines : TailoringParts → ℕ → StatReport → List ℕ

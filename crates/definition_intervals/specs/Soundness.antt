@@ -37,7 +37,9 @@ IsContained w key tag =
 
 -- In each world the state at a kept parameter report is possible from each opening.
 abbrev pub ContainmentHolds : Type 0
-ContainmentHolds = (t : TailoringParts) (w : World) (key : Key) (tag : ℕ) (payload : List ℕ) → w.session.protocol ≡ protocol t → IsWorld w → HasReport (history_in w) key tag payload → IsContained w key tag
+ContainmentHolds =
+    (t : TailoringParts) (w : World) (key : Key) (tag : ℕ) (payload : List ℕ)
+    → w.session.protocol ≡ protocol t → IsWorld w → HasReport (history_in w) key tag payload → IsContained w key tag
 
 -- a decided definition is the one in force, no report is impossible, and a settled one is decided
 pub record IsSound (w : World) (key : Key) (tag : ℕ) (payload : List ℕ) : Type 0 where
@@ -48,7 +50,9 @@ pub record IsSound (w : World) (key : Key) (tag : ℕ) (payload : List ℕ) : Ty
 
 -- In each world the verdict on each kept parameter report is sound.
 abbrev pub VerdictsAreSound : Type 0
-VerdictsAreSound = (t : TailoringParts) (w : World) (key : Key) (tag : ℕ) (payload : List ℕ) → w.session.protocol ≡ protocol t → IsWorld w → HasReport (history_in w) key tag payload → IsSound w key tag payload
+VerdictsAreSound =
+    (t : TailoringParts) (w : World) (key : Key) (tag : ℕ) (payload : List ℕ)
+    → w.session.protocol ≡ protocol t → IsWorld w → HasReport (history_in w) key tag payload → IsSound w key tag payload
 
 -- a request that is named is an open change of an opening
 abbrev pub IsOpenChange : List Opening → ℕ → Type 0

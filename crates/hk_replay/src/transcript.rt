@@ -3,13 +3,12 @@ ghost use Rattle.std.specs.Prelude.{◌≡◌, ◌≤◌, ◌^◌, ◌+◌, Some
 ghost use Rattle.hk_base.specs.Payload.{IsValid};
 ghost use Rattle.session_record.specs.Records.{held_octets};
 ghost use Rattle.pus_messages.specs.Spelling.{HasRoom};
-ghost use Rattle.hk_replay.specs.Blocks.{packet_block, body_block, values_block, structure_block};
+ghost use Rattle.hk_replay.specs.Blocks.{packet_block, reception_block, body_block, values_block, structure_block};
 ghost use Rattle.hk_replay.specs.Transcripts.{no_lines, with_block, with_entry};
 
 use crate::lines::{write_report, write_values};
 use hk_base::{Key, Kind, Memory, Structure, Tailoring, slot_of};
-use pus_messages::{MessageFault, Report, ReportBody, read_report};
-use pus_packet::apid_of;
+use pus_messages::{Reception, Report, ReportBody, receive};
 use sample_slots::{PayloadFault, read_payload};
 use session_record::Entry;
 use st03_grammar::Report03;
@@ -82,14 +81,9 @@ fn with_packet(
     requires { length packet.now ≤ 2 ^ 31 }
     ensures { IfOk result (λ after. after ≡ with_block before (packet_block tailoring.now packet.now)) }
 {
-    let own = tailoring.widths().apid;
-    if apid_of(packet).is_some_and(|apid| apid != own) {
-        return Ok(None);
-    }
-    match read_report(alloc, tailoring, packet) {
-        Ok(report) => with_report(alloc, tailoring, before, &report),
-        Err(MessageFault::Memory) => Err(Memory),
-        Err(_) => Ok(None),
+    match receive(alloc, tailoring, packet)? {
+        Reception::Readable(report) => with_report(alloc, tailoring, before, &report),
+        _ => Ok(None),
     }
 }
 

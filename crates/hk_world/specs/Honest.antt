@@ -151,14 +151,16 @@ IsHonestBody s earlier tag (Par r) = AllByRecursion (λ x. (state_after s earlie
 abbrev pub Carries : Session → List Moment → Moment → Act → Type 0
 Carries s earlier m (Accepted k) = VerifiesIf (asks_for 0 s k) s m (verify.Accepted (request_id s k))
 Carries s earlier m (TurnedAway k) =
-    (packet : List ℕ) × (c : Cause) × (slice_get s.requests k ≡ Some packet) × (s.protocol.request packet ≡ Err c) × IsReport s m (Verify (verify.Refused (request_id s k) c))
+    (packet : List ℕ) × (c : Cause) × (slice_get s.requests k ≡ Some packet) × (s.protocol.request packet ≡ Err c)
+    × IsReport s m (Verify (verify.Refused (request_id s k) c))
 Carries s earlier m (Started k) = VerifiesIf (asks_for 1 s k) s m (verify.Started (request_id s k))
 Carries s earlier m (NotStarted k) =
     (x : Instruction) × (c : Cause) × (instructions_at s k ≡ x ∷ []) × IsRefusedFor s earlier x c × IsReport s m (Verify (verify.NotStarted (request_id s k) c))
 Carries s earlier m (Executed k number true) = VerifiesIf (has_several s k && asks_for 2 s k) s m (verify.Step (request_id s k) number)
 Carries s earlier m (Executed k number false) =
     MatchBool (has_several s k)
-    ((x : Instruction) × (c : Cause) × (instruction_at s k number ≡ Some x) × IsRefusedFor s earlier x c × IsReport s m (Verify (verify.StepFailed (request_id s k) number c)))
+    ((x : Instruction) × (c : Cause) × (instruction_at s k number ≡ Some x) × IsRefusedFor s earlier x c
+    × IsReport s m (Verify (verify.StepFailed (request_id s k) number c)))
     (IsSilent m)
 Carries s earlier m (Completed k []) = VerifiesIf (asks_for 3 s k) s m (verify.Completed (request_id s k))
 Carries s earlier m (Completed k (number ∷ numbers)) = IsReport s m (Verify (verify.Incomplete (request_id s k) 200 (number ∷ numbers)))

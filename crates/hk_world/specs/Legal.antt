@@ -118,7 +118,8 @@ pub record IsSample (s : Session) (earlier : List Moment) (id slot : ℕ) (value
   pub known : parameter (tailoring s) id ≡ Some q
   pub fit : IsTrue (fits q value)
   pub once : AllByRecursion (λ e. IsFalse (is_filing id slot e.act)) earlier
-  pub settable : IsTrue (is_settable q) → IsTrue (list_any (λ e. is_acceptance e.act) earlier) ⊎ (s.initial ≡ boot_state (tailoring s)) → (state_after s earlier).value id ≡ Some value
+  pub settable : IsTrue (is_settable q) → IsTrue (list_any (λ e. is_acceptance e.act) earlier) ⊎ (s.initial ≡ boot_state (tailoring s))
+      → (state_after s earlier).value id ≡ Some value
 
 -- 5. A sample fits its parameter, and there is one for each parameter and slot.
 abbrev pub FilesSample : Session → List Moment → Act → Type 0

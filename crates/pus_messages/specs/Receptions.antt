@@ -2,7 +2,7 @@
 use Rattle.std.specs.Prelude.{ℕ, List, ⊤}
 use Rattle.hk_base.specs.TailoringParts.{TailoringParts}
 use Rattle.pus_messages.specs.Protocol as protocol
-use Rattle.pus_messages.specs.Spelling.{IsReportPacket}
+use Rattle.pus_messages.specs.Spelling.{IsReportPacket, HasRoom}
 use Rattle.pus_messages.specs.declared.reception.Reception.{Reception}
 use Rattle.pus_messages.specs.declared.reception.Reception.TheVariants.{Foreign, Skipped, Unread, Readable}
 
@@ -17,3 +17,8 @@ seen (Readable report) = protocol.readable report
 abbrev pub IsFrom : TailoringParts → List ℕ → Reception → Type 0
 IsFrom t octets (Readable report) = IsReportPacket t report octets
 IsFrom t octets _ = ⊤
+
+-- the payload of a report that was received is short
+abbrev pub IsShort : Reception → Type 0
+IsShort (Readable report) = HasRoom report.body
+IsShort _ = ⊤

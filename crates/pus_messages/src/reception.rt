@@ -1,7 +1,7 @@
 //! Octets from the board, of which the ground doesn't know what they are.
 ghost use Rattle.std.specs.Prelude.{◌≡◌, ◌≤◌, ◌^◌, length, IfOk};
 ghost use Rattle.pus_messages.specs.Messages.{reception, reception_by, report_of};
-ghost use Rattle.pus_messages.specs.Receptions.{seen, IsFrom};
+ghost use Rattle.pus_messages.specs.Receptions.{seen, IsFrom, IsShort};
 
 use crate::message::{MessageFault, Report};
 use crate::reading::read_report;
@@ -26,6 +26,7 @@ pub fn receive(alloc: Global, tailoring: &Tailoring, bytes: &[u8]) -> Result<Rec
     requires size { length bytes.now ≤ 2 ^ 31 }
     ensures is { IfOk result (λ given. seen given ≡ reception tailoring.now bytes.now) }
     ensures found { IfOk result (λ given. IsFrom tailoring.now bytes.now given) }
+    ensures room { IfOk result (λ given. IsShort given) }
 {
     match apid_of(bytes) {
         Some(apid) if apid != tailoring.widths().apid => Ok(Reception::Foreign(apid)),
@@ -38,6 +39,7 @@ fn own_reception(alloc: Global, tailoring: &Tailoring, bytes: &[u8]) -> Result<R
     requires size { length bytes.now ≤ 2 ^ 31 }
     ensures is { IfOk result (λ given. seen given ≡ reception_by (report_of tailoring.now bytes.now)) }
     ensures found { IfOk result (λ given. IsFrom tailoring.now bytes.now given) }
+    ensures room { IfOk result (λ given. IsShort given) }
 {
     match read_report(alloc, tailoring, bytes) {
         Ok(report) => Ok(Reception::Readable(report)),

@@ -8,9 +8,7 @@ ghost use Rattle.report_structures.specs.Effects as effects;
 ghost use Rattle.report_structures.specs.Effects.{effect, each_effect, state_unless, if_uneven, with_definition};
 ghost use Rattle.report_structures.specs.Changes.{Gives, IsGrammarChange, IsFormedState};
 
-use crate::checks::{
-    check_disabled, check_even, check_few, check_narrow, check_once, listed_ids,
-};
+use crate::checks::{check_disabled, check_even, check_few, check_narrow, check_once, listed_ids};
 use crate::extension::extended;
 use crate::refusal::{ApplyFault, Refusal};
 use hk_base::{Definition, Structure, Tailoring};
@@ -128,18 +126,18 @@ fn set_interval(
 fn change_plainly(
     alloc: Global,
     each: Each,
-    before: &Structure,
+    structure: &Structure,
 ) -> Result<Option<Structure>, ApplyFault>
-    ensures { Gives result (each_effect each before.now) }
+    ensures { Gives result (each_effect each structure.now) }
 {
     match each {
         Each::Delete => {
-            check_disabled(before)?;
+            check_disabled(structure)?;
             Ok(None)
         }
-        Each::Enable => with_status(alloc, before, true),
-        Each::Disable => with_status(alloc, before, false),
-        Each::Show | Each::OneShot | Each::ShowPeriodic => Ok(Some(before.copy(alloc)?)),
+        Each::Enable => with_status(alloc, structure, true),
+        Each::Disable => with_status(alloc, structure, false),
+        Each::Show | Each::OneShot | Each::ShowPeriodic => Ok(Some(structure.copy(alloc)?)),
     }
 }
 

@@ -7,11 +7,7 @@ use st03_grammar::Added;
 use std::alloc::Global;
 
 /// A definition with lists behind its own.
-pub(crate) fn extended(
-    alloc: Global,
-    def: &Definition,
-    added: &Added,
-) -> Result<Definition, Memory>
+pub(crate) fn extended(alloc: Global, def: &Definition, added: &Added) -> Result<Definition, Memory>
     ensures { IfOk result (λ longer. longer ≡ extended_definition def.now added.now) }
 {
     let simple = joined_ids(alloc, &def.simple, &added.simple)?;
@@ -23,11 +19,7 @@ pub(crate) fn extended(
     })
 }
 
-fn joined_ids(
-    alloc: Global,
-    first: &Items<u32>,
-    second: &Items<u32>,
-) -> Result<Items<u32>, Memory>
+fn joined_ids(alloc: Global, first: &Items<u32>, second: &Items<u32>) -> Result<Items<u32>, Memory>
     ensures { IfOk result (λ ids. ids ≡ first.now ++ second.now) }
 {
     let mut ids = Vec::from_slice(alloc, first.as_slice())?;

@@ -8,20 +8,21 @@ use Rattle.std.proofs.lemmas.Bool.Decides.{nat_tests}
 use Rattle.hk_base.specs.TailoringParts.{TailoringParts}
 use Rattle.hk_base.specs.Parameters.{parameter}
 use Rattle.hk_base.specs.Definitions.{listed_ids}
-use Rattle.hk_base.specs.Reading.{fault_if, param_fault, interval_fault}
-use Rattle.hk_base.specs.Spelling.{AllStand}
-use Rattle.hk_base.specs.declared.types.BodyFault.{BodyFault}
-use Rattle.hk_base.specs.declared.types.BodyFault.TheVariants.{ZeroCount, ZeroInterval, LongInterval, BadRepetition}
+use Rattle.body_fields.specs.Reading.{fault_if, param_fault, interval_fault}
+use Rattle.body_fields.specs.Spelling.{AllStand}
+use Rattle.body_fields.specs.declared.fault.BodyFault.{BodyFault}
+use Rattle.body_fields.specs.declared.fault.BodyFault.TheVariants.{ZeroCount, ZeroInterval, LongInterval, BadRepetition}
 use Rattle.hk_base.specs.declared.types.Kind.{Kind}
 use Rattle.hk_base.specs.declared.types.Key.{Key}
 use Rattle.hk_base.specs.declared.types.Param.{Param}
 use Rattle.hk_base.specs.declared.types.SuperList.{SuperList}
 use Rattle.hk_base.proofs.Finds.{slice_get_each}
-use Rattle.hk_base.proofs.FitLemmas.{param_known}
+use Rattle.body_fields.proofs.FitLemmas.{param_known}
 use Rattle.hk_base.proofs.Membership.{AllByRecursion-append}
 use Rattle.std.proofs.lemmas.Option.{none-some}
 use Rattle.st03_grammar.specs.Bodies.{repetition_fault, array_view, in_view}
-use Rattle.st03_grammar.specs.Spelling.{IsInterval, AreArrays, AreLists, IsRequest03}
+use Rattle.body_fields.specs.Spelling.{IsInterval}
+use Rattle.st03_grammar.specs.Spelling.{AreArrays, AreLists, IsRequest03}
 use Rattle.st03_grammar.specs.Instructions.{StructureChange, plain, set_interval, key_of, structure_changes, instruction_at}
 use Rattle.st03_grammar.specs.declared.bodies.Each.{Each}
 use Rattle.st03_grammar.specs.declared.bodies.Pair.{Pair}

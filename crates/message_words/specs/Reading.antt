@@ -8,6 +8,7 @@ use Rattle.st03_grammar.specs.Bodies as st03
 use Rattle.st04_grammar.specs.Bodies as st04
 use Rattle.st20_grammar.specs.Bodies as st20
 use Rattle.pus_messages.specs.declared.message.Request.{Request}
+use Rattle.pus_messages.specs.declared.message.RequestBody.{RequestBody}
 use Rattle.pus_messages.specs.declared.message.RequestBody.TheVariants as ask
 use Rattle.message_words.specs.Words.{request_text}
 use Rattle.message_words.specs.Numbers.{number_in, hex_value}
@@ -34,23 +35,27 @@ sound (Some (Err fault)) = None
 abbrev pub sound_body : {A : Type 0} → (List ℕ → Option (Result A BodyFault)) → List ℕ → Option A
 sound_body read octets = if nat_lt most_octets (length octets) then None else sound (read octets)
 
+-- a body with its service and subtype
+abbrev pub typed : ℕ → ℕ → RequestBody → TypedBody
+typed service subtype body = record { service = service; subtype = subtype; body = body }
+
 -- the request on structures that words behind the first one are
 abbrev pub housekeeping_in : TailoringParts → StructureCommand → List (List ℕ) → Option TypedBody
 housekeeping_in t command [] = None
 housekeeping_in t command (kind ∷ words) =
-    option_map (λ r. record { service = 3; subtype = structure_subtype command (kind_in kind); body = ask.Hk r })
+    option_map (λ r. typed 3 (structure_subtype command (kind_in kind)) (ask.Hk r))
     (sound_body (st03.request_body t (structure_subtype command (kind_in kind))) (structure_octets t command words))
 
 -- the statistics request that words behind the first one are
 abbrev pub statistics_in : TailoringParts → StatisticsCommand → List (List ℕ) → Option TypedBody
 statistics_in t command words =
-    option_map (λ r. record { service = 4; subtype = statistics_subtype command; body = ask.Stat r })
+    option_map (λ r. typed 4 (statistics_subtype command) (ask.Stat r))
     (sound_body (st04.request_body t (statistics_subtype command)) (statistics_octets t command words))
 
 -- the request on parameter values that words behind the first one are
 abbrev pub request20_in : TailoringParts → ValueCommand → List (List ℕ) → Option TypedBody
 request20_in t command words =
-    option_map (λ r. record { service = 20; subtype = value_subtype command; body = ask.Par r })
+    option_map (λ r. typed 20 (value_subtype command) (ask.Par r))
     (sound_body (st20.request_body t (value_subtype command)) (request20_octets t command words))
 
 -- the body that words are behind the one that says what is asked

@@ -2,7 +2,7 @@
 //!
 //! Each function goes by the places of the words alone: the decoder of the body finds what isn't of the grammar, and the
 //! comparison with the line what isn't its words. A number that its field has no room for puts no octets.
-ghost use Rattle.std.specs.Prelude.{◌≡◌, ◌≤◌, ◌<◌, ◌^◌, ◌++◌, ◌∷◌, [], List, ℕ, length, map, flat_map, IfOk, OnOk};
+ghost use Rattle.std.specs.Prelude.{◌≡◌, ◌≤◌, ◌^◌, ◌++◌, ◌∷◌, [], List, ℕ, length, map, flat_map, IfOk, OnOk};
 ghost use Rattle.std.specs.List.{slice_split};
 ghost use Rattle.message_words.specs.BodyOctets as spelling;
 ghost use Rattle.message_words.specs.BodyOctets.{field, number_octets, list_octets, array_octets, section_octets, lists_octets, creation_octets, appending_octets, alternating_octets, pair_octets, setting_octets_from, setting_octets, deleted, structure_octets, statistics_octets, request20_octets};
@@ -71,12 +71,20 @@ pub fn put_value_request(
     }
 }
 
+/// How many numbers a field of so many octets has room for.
+fn capacity(octets: u8) -> u64
+    requires { octets ≤ 4 }
+    ensures { result ≡ 256 ^ octets }
+{
+    256u64.pow(u32::from(octets))
+}
+
 /// Appends a number in a field of so many octets, if the field has room for it.
 fn put_field(octets: u8, number: u32, out: &mut Vec<u8>) -> Result<(), Memory>
     requires { (1 ≤ octets) × (octets ≤ 4) }
     ensures { OnOk result (out.new.items ≡ out.old.items ++ field octets number) }
 {
-    if u64::from(number) < 256u64.pow(u32::from(octets)) {
+    if u64::from(number) < capacity(octets) {
         put_uint(out, octets, u128::from(number))?;
     }
     Ok(())
@@ -87,7 +95,7 @@ fn put_count(tailoring: &Tailoring, count: usize, out: &mut Vec<u8>) -> Result<(
     ensures { OnOk result (out.new.items ≡ out.old.items ++ spelling.count_octets tailoring.now count) }
 {
     let octets = tailoring.widths().count_octets;
-    if (count as u64) < 256u64.pow(u32::from(octets)) {
+    if (count as u64) < capacity(octets) {
         put_uint(out, octets, count as u128)?;
     }
     Ok(())

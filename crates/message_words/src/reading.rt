@@ -1,8 +1,9 @@
 //! Requests, read from their words.
-ghost use Rattle.std.specs.Prelude.{◌≡◌, ◌==◌, map, IfOk};
+ghost use Rattle.std.specs.Prelude.{◌≡◌, ◌==◌, map, IfOk, if◌then◌else◌};
 ghost use Rattle.std.specs.List.{slice_split};
+ghost use Rattle.std.specs.Option.{option_copied};
 ghost use Rattle.message_words.specs.Outcomes.{Gives};
-ghost use Rattle.message_words.specs.Reading.{request_named, with_words, request_in_words};
+ghost use Rattle.message_words.specs.Reading.{is_ascii, request_named, with_words, request_in_words};
 
 use crate::bodies::body_in;
 use crate::fault::WordsFault;
@@ -22,15 +23,31 @@ pub fn read_words(
 ) -> Result<Request, WordsFault>
     ensures { Gives result (request_in_words tailoring.now line.now) }
 {
-    if !line.is_ascii() {
-        return Err(WordsFault::Form);
-    }
-    let Ok(text) = str::from_utf8(line) else {
+    let Some(text) = ascii_text(line) else {
         return Err(WordsFault::Form);
     };
     let words = words_in(alloc, text)?;
     let request = request_named(alloc, tailoring, &words)?;
     if_spelled(alloc, request, line)
+}
+
+/// The line as a text, if it is ASCII.
+fn ascii_text(line: &[u8]) -> Option<&str>
+    ensures { option_copied result ≡ (if is_ascii line.now then Some line.now else None) }
+{
+    if !is_ascii(line) {
+        return None;
+    }
+    match str::from_utf8(line) {
+        Ok(text) => Some(text),
+        Err(_) => None,
+    }
+}
+
+fn is_ascii(line: &[u8]) -> bool
+    ensures { result ≡ is_ascii line.now }
+{
+    line.iter().all(|octet| *octet < 128)
 }
 
 /// The words of a line, which one blank divides.

@@ -7,3 +7,5 @@ pub mod SpelledLists
 pub mod SpelledValues
 pub mod BodyFaults
 pub mod Lengths
+pub mod BodiesAgain
+pub mod WordsOfBodies

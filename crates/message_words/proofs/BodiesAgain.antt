@@ -123,8 +123,11 @@ housekeeping-again t (Create key d) few again is =
     let fit : RequestFits t (Create key d) = request_fits t (Create key d) is in
     housekeeping_again t (Create key d) structures.Create key.kind (decimal key.id ∷ codes "interval" ∷ decimal d.interval ∷ lists_words d.simple d.arrays) again is refl
     (creation-spelled t key d few fit)
-    (omega (arith, length-behind t t.widths.structure_octets key.id (octets_of t.widths.interval_octets d.interval ++ st03.lists_octets t d.simple d.arrays) 263172 few.structures
-      (length-behind t t.widths.interval_octets d.interval (st03.lists_octets t d.simple d.arrays) 263168 few.intervals (length-lists t d.simple d.arrays few fit.2))))
+    (omega (
+      arith,
+      length-behind t t.widths.structure_octets key.id (octets_of t.widths.interval_octets d.interval ++ st03.lists_octets t d.simple d.arrays) 263172 few.structures
+          (length-behind t t.widths.interval_octets d.interval (st03.lists_octets t d.simple d.arrays) 263168 few.intervals (length-lists t d.simple d.arrays few fit.2)),
+    ))
 housekeeping-again t (Append key a) few again is =
     let fit : RequestFits t (Append key a) = request_fits t (Append key a) is in
     housekeeping_again t (Append key a) structures.Append key.kind (decimal key.id ∷ lists_words a.simple a.arrays) again is refl
@@ -134,8 +137,8 @@ housekeeping-again t (OnEach what kind ids) few again is =
     let fit : RequestFits t (OnEach what kind ids) = request_fits t (OnEach what kind ids) is in
     each_again t what (kind_word kind ∷ map decimal ids)
     ∙ housekeeping_again t (OnEach what kind ids) (structures.OnEach what) kind (map decimal ids) again is refl
-      (list-spelled t t.widths.structure_octets ids few.structures fit.1 fit.2)
-      (omega (arith, length-list t t.widths.structure_octets ids few few.structures fit.0))
+    (list-spelled t t.widths.structure_octets ids few.structures fit.1 fit.2)
+    (omega (arith, length-list t t.widths.structure_octets ids few few.structures fit.0))
 housekeeping-again t (Intervals kind pairs) few again is =
     let fit : RequestFits t (Intervals kind pairs) = request_fits t (Intervals kind pairs) is in
     housekeeping_again t (Intervals kind pairs) structures.Intervals kind (flat_map pair_words pairs) again is refl

@@ -9,3 +9,6 @@ pub mod BodyFaults
 pub mod Lengths
 pub mod BodiesAgain
 pub mod WordsOfBodies
+pub mod LinesAgain
+pub mod OctetsAre
+pub mod LinesOnly

@@ -10,7 +10,7 @@ ghost use Rattle.message_words.specs.Reading.{request_in_words};
 /// A request of the grammar is read from its words, and from no other line.
 pub fn words_are_read_back()
     ensures again { (t : TailoringParts) (r : Request) → IsFit t → IsOfGround t r → request_in_words t (request_text r) ≡ Some r }
-    ensures only { (t : TailoringParts) (line : List ℕ) (r : Request) → request_in_words t line ≡ Some r → IsOfGround t r × (request_text r ≡ line) }
+    ensures only { (t : TailoringParts) (line : List ℕ) (r : Request) → IsFit t → request_in_words t line ≡ Some r → IsOfGround t r × (request_text r ≡ line) }
 {
     st03_grammar::requests_are_spelled();
     st04_grammar::requests_are_spelled();

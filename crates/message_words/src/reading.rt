@@ -25,6 +25,7 @@ pub fn read_words(alloc: Global, tailoring: &Tailoring, line: &[u8]) -> Result<R
     ensures words { IfOk result (λ request. request_text request ≡ line.now) }
 {
     words_are_read_back();
+    let _fit = tailoring.widths();
     request_in_line(alloc, tailoring, line)
 }
 

@@ -1,4 +1,4 @@
-ghost use Rattle.message_words.specs.Grammar.{IsBody};
+ghost use Rattle.pus_messages.specs.Spelling.{IsRequestBody};
 
 use crate::{WordsFault, read_words, report_words, request_words};
 use hk_base::{BUILTIN_WIDTHS, Form, Items, Memory, Octets, Param, Tailoring, builtin};
@@ -40,7 +40,7 @@ fn words_of(alloc: Global, tailoring: &Tailoring, header: TcHeader, body: &[u8])
 }
 
 fn write_body(tailoring: &Tailoring, body: &RequestBody, out: &mut Vec<u8>) -> Result<u8, Memory>
-    requires { IsBody tailoring.now body.now }
+    requires { IsRequestBody tailoring.now body.now }
 {
     match body {
         RequestBody::Hk(request) => st03_grammar::encode_request(tailoring, request, out),

@@ -15,8 +15,8 @@ returns-clause-again c =
 
 pub returns-clause-only : goal.returns-clause-only
 returns-clause-only c =
-    λ t line r e.
-    request-only t line r
+    λ t line r fit e.
+    request-only t line r fit
     (record {
       housekeeping = c.requests_are_spelled.ensures.only t;
       statistics = c.requests_are_spelled-2.ensures.only t;

@@ -169,7 +169,7 @@ named-only t (count ∷ flags ∷ words) r fit laws e =
     let is = body-only t words found.0 laws found.1 in
     let few = type_small found.0.body in
     subst (IsOfGround t) found.2
-      (record {
+    (record {
       message = record {
         headers = record {
           apid = omega (arith, fit.widths.apid);

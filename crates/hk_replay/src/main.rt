@@ -1,7 +1,6 @@
 //! The ground's decoder of housekeeping reports.
 #![tactic(auto)]
 
-mod draft;
 mod lines;
 mod outside;
 mod record;
@@ -13,7 +12,6 @@ mod tests;
 #[cfg(test)]
 mod tests_below;
 mod transcript;
-mod trim;
 mod words;
 
 use crate::outside::{FileShelf, OutSink};

@@ -1,0 +1,8 @@
+pub mod Lawful
+pub mod NameLemmas
+pub mod SpellingLemmas
+pub mod ReadingLemmas
+pub mod WritingLemmas
+pub mod ChangeLemmas
+pub mod FoundLemmas
+pub mod BoundLemmas

@@ -1,0 +1,9 @@
+pub mod TailLemmas
+pub mod NumberLemmas
+pub mod SplitLemmas
+pub mod LineLemmas
+pub mod SpelledOctets
+pub mod SpelledLists
+pub mod SpelledValues
+pub mod BodyFaults
+pub mod Lengths

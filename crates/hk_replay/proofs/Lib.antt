@@ -3,4 +3,5 @@ pub mod EntryLemmas
 pub mod BlockLemmas
 pub mod HeadlineLemmas
 pub mod GivenLemmas
+pub mod ShownLemmas
 pub mod TailoringLemmas

@@ -40,7 +40,6 @@ IsReadingStatus status = IsEarlyStatus status
 abbrev pub IsOfReading : {X : Type 0} → Result X ReplayStatus → Type 0
 IsOfReading result = IfErr result IsReadingStatus
 
-
 -- nothing was written where a run ended before its text was whole
 abbrev pub WritesNothingEarly : ReplayStatus → Option (List ℕ) → Option (List ℕ) → Type 0
 WritesNothingEarly Done before after = ⊤

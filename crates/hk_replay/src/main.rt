@@ -11,6 +11,8 @@ mod tailorings;
 mod tests;
 #[cfg(test)]
 mod tests_below;
+#[cfg(test)]
+mod tests_entries;
 mod transcript;
 mod words;
 

@@ -168,10 +168,10 @@ fn record_shown<F: Shelf, K: Sink>(
     if shelf.select(name).is_err() {
         return ReplayStatus::ReadFault;
     }
-    match show(alloc, tailoring, shelf, sink) {
-        Ok(()) => ReplayStatus::Done,
-        Err(fault) => fault.into(),
+    if let Err(fault) = show(alloc, tailoring, shelf, sink) {
+        return fault.into();
     }
+    ReplayStatus::Done
 }
 
 /// The lines for the record of this name under a tailoring, or how the run ends without them.

@@ -7,3 +7,8 @@ pub mod SpelledLists
 pub mod SpelledValues
 pub mod BodyFaults
 pub mod Lengths
+pub mod BodiesAgain
+pub mod WordsOfBodies
+pub mod LinesAgain
+pub mod OctetsAre
+pub mod LinesOnly

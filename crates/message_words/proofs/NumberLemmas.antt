@@ -40,7 +40,7 @@ number_from-decimal most n few l =
     decimal_by_steps (λ k ds. k ≤ most → number_from most 0 ds ≡ k)
     (λ k low h. first_digit most k h)
     (λ k ds high ih h.
-      number_from-append most 0 ds ((48 + k % 10) ∷ []) ∙ ap (λ front. with_digit most front (48 + k % 10)) (ih (omega arith)) ∙ next_digit most k h)
+    number_from-append most 0 ds ((48 + k % 10) ∷ []) ∙ ap (λ front. with_digit most front (48 + k % 10)) (ih (omega arith)) ∙ next_digit most k h)
     n l few
 
 -- a number of 32 bits is read from its text

@@ -57,7 +57,8 @@ in_octets-small Unsigned octets (negsuc n) few is = absurd is
 in_octets-small (Enumerated values) octets (negsuc n) few is = absurd is
 in_octets-small Boolean octets (negsuc n) few is = absurd is
 
-few_octets : (p : Param) → IsFitShape p → p.octets ≤ 8
+-- a parameter has eight octets at most
+pub few_octets : (p : Param) → IsFitShape p → p.octets ≤ 8
 few_octets p fit = omega (arith, fit.octets, fit.bits.1)
 
 -- the known parameter of a setting

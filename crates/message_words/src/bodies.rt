@@ -6,7 +6,10 @@ ghost use Rattle.st03_grammar.specs.Bodies.{request_body as body03};
 ghost use Rattle.st04_grammar.specs.Bodies.{request_body as body04};
 ghost use Rattle.st20_grammar.specs.Bodies.{request_body as body20};
 
-use crate::commands::{Command, StatisticsCommand, StructureCommand, ValueCommand, command_in, kind_in, statistics_subtype, structure_subtype, value_subtype};
+use crate::commands::{
+    Command, StatisticsCommand, StructureCommand, ValueCommand, command_in, kind_in,
+    statistics_subtype, structure_subtype, value_subtype,
+};
 use crate::fault::WordsFault;
 use crate::octets::{put_statistics_request, put_structure_request, put_value_request};
 use hk_base::Tailoring;
@@ -80,9 +83,7 @@ fn decode03(
     if octets.len() > MOST_OCTETS || !st03_grammar::knows_request(subtype) {
         return Err(WordsFault::Form);
     }
-    Ok(st03_grammar::decode_request(
-        alloc, tailoring, subtype, octets,
-    )?)
+    Ok(st03_grammar::decode_request(alloc, tailoring, subtype, octets)?)
 }
 
 /// The statistics request that words behind the first one are.
@@ -116,9 +117,7 @@ fn decode04(
     if octets.len() > MOST_OCTETS || !st04_grammar::knows_request(subtype) {
         return Err(WordsFault::Form);
     }
-    Ok(st04_grammar::decode_request(
-        alloc, tailoring, subtype, octets,
-    )?)
+    Ok(st04_grammar::decode_request(alloc, tailoring, subtype, octets)?)
 }
 
 /// The request on parameter values that words behind the first one are.
@@ -152,7 +151,5 @@ fn decode20(
     if octets.len() > MOST_OCTETS || !st20_grammar::knows_request(subtype) {
         return Err(WordsFault::Form);
     }
-    Ok(st20_grammar::decode_request(
-        alloc, tailoring, subtype, octets,
-    )?)
+    Ok(st20_grammar::decode_request(alloc, tailoring, subtype, octets)?)
 }

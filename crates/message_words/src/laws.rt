@@ -11,4 +11,8 @@ ghost use Rattle.message_words.specs.Reading.{request_in_words};
 pub fn words_are_read_back()
     ensures again { (t : TailoringParts) (r : Request) → IsFit t → IsOfGround t r → request_in_words t (request_text r) ≡ Some r }
     ensures only { (t : TailoringParts) (line : List ℕ) (r : Request) → request_in_words t line ≡ Some r → IsOfGround t r × (request_text r ≡ line) }
-{}
+{
+    st03_grammar::requests_are_spelled();
+    st04_grammar::requests_are_spelled();
+    st20_grammar::requests_are_spelled();
+}

@@ -18,3 +18,6 @@ pub use laws::words_are_read_back;
 pub use reading::read_words;
 pub use reports::report_words;
 pub use requests::request_words;
+
+#[cfg(test)]
+mod tests;

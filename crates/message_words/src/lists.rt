@@ -45,11 +45,7 @@ fn push_arrays(line: &mut String, arrays: &[SuperList]) -> Result<(), AllocError
 }
 
 /// Appends simple parameters and arrays.
-pub fn push_lists(
-    line: &mut String,
-    simple: &[u32],
-    arrays: &[SuperList],
-) -> Result<(), AllocError>
+pub fn push_lists(line: &mut String, simple: &[u32], arrays: &[SuperList]) -> Result<(), AllocError>
     ensures { OnOk result (string_bytes line.new ≡ string_bytes line.old ++ tail (lists_words simple.now arrays.now)) }
 {
     push_simple(line, simple)?;

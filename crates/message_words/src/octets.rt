@@ -251,12 +251,7 @@ fn put_pairs(tailoring: &Tailoring, words: &[&str], out: &mut Vec<u8>) -> Result
 }
 
 /// Appends numbers in fields of the one width and of the other in turn.
-fn put_alternating(
-    octets: u8,
-    other: u8,
-    words: &[&str],
-    out: &mut Vec<u8>,
-) -> Result<(), Memory>
+fn put_alternating(octets: u8, other: u8, words: &[&str], out: &mut Vec<u8>) -> Result<(), Memory>
     requires one { (1 ≤ octets) × (octets ≤ 4) }
     requires two { (1 ≤ other) × (other ≤ 4) }
     ensures { OnOk result (out.new.items ≡ out.old.items ++ alternating_octets octets other (map (λ word. word.now) words.now)) }
@@ -317,12 +312,7 @@ fn put_id_or_value(
 }
 
 /// Appends a value that the parameter with this ID can have, in the parameter's octets.
-fn put_value(
-    tailoring: &Tailoring,
-    id: u32,
-    value: Value,
-    out: &mut Vec<u8>,
-) -> Result<(), Memory>
+fn put_value(tailoring: &Tailoring, id: u32, value: Value, out: &mut Vec<u8>) -> Result<(), Memory>
     ensures { OnOk result (out.new.items ≡ out.old.items ++ spelling.value_octets tailoring.now id value) }
 {
     match tailoring.param(id) {

@@ -3,10 +3,13 @@ ghost use Rattle.std.specs.Prelude.{◌≡◌, ◌==◌, map, IfOk, if◌then◌
 ghost use Rattle.std.specs.List.{slice_split};
 ghost use Rattle.std.specs.Option.{option_copied};
 ghost use Rattle.message_words.specs.Outcomes.{Gives};
+ghost use Rattle.message_words.specs.Words.{request_text};
+ghost use Rattle.message_words.specs.Grammar.{IsOfGround};
 ghost use Rattle.message_words.specs.Reading.{is_ascii, request_named, with_words, request_in_words};
 
 use crate::bodies::body_in;
 use crate::fault::WordsFault;
+use crate::laws::words_are_read_back;
 use crate::numbers::{hex_value, number_in};
 use crate::requests::request_words;
 use hk_base::Tailoring;
@@ -16,11 +19,17 @@ use std::alloc::{AllocError, Global};
 
 /// The request of the grammar whose words the line is, with the process and the source of the tailoring. The line has no
 /// line end. Numbers are decimal without leading zeros, and words are divided by one blank.
-pub fn read_words(
-    alloc: Global,
-    tailoring: &Tailoring,
-    line: &[u8],
-) -> Result<Request, WordsFault>
+pub fn read_words(alloc: Global, tailoring: &Tailoring, line: &[u8]) -> Result<Request, WordsFault>
+    ensures gives { Gives result (request_in_words tailoring.now line.now) }
+    ensures grammar { IfOk result (λ request. IsOfGround tailoring.now request) }
+    ensures words { IfOk result (λ request. request_text request ≡ line.now) }
+{
+    words_are_read_back();
+    request_in_line(alloc, tailoring, line)
+}
+
+/// The request that the words of a line name, if its words are the line.
+fn request_in_line(alloc: Global, tailoring: &Tailoring, line: &[u8]) -> Result<Request, WordsFault>
     ensures { Gives result (request_in_words tailoring.now line.now) }
 {
     let Some(text) = ascii_text(line) else {

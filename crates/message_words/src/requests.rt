@@ -6,7 +6,9 @@ ghost use Rattle.message_words.specs.Words.{housekeeping_words, statistics_words
 ghost use Rattle.message_words.specs.Tails.{tail};
 
 use crate::lists::{push_definition, push_key, push_lists};
-use crate::words::{kind_word, push_hex, push_named, push_number, push_numbers, push_value, push_word};
+use crate::words::{
+    kind_word, push_hex, push_named, push_number, push_numbers, push_value, push_word,
+};
 use hk_base::{Kind, Memory, Octets};
 use pus_messages::{Request, RequestBody};
 use st03_grammar::{Each, Pair, Request03};

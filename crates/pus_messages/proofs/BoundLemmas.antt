@@ -100,9 +100,17 @@ params_most t (id ∷ ids) fit = omega (arith, length-append (param_octets t id)
 
 array_most : (t : TailoringParts) (a : SuperList) → IsFit t → length a.params ≤ 255 → length (array_octets t a) ≤ 1024
 array_most t a fit few =
-    omega (arith, length-append (octets_of t.widths.repetition_octets a.repetition) (counted_octets t (param_octets t) a.params), length-digits 256 t.widths.repetition_octets a.repetition,
-    fit.widths.repetition_octets.1, length-append (octets_of t.widths.count_octets (length a.params)) (flat_map (param_octets t) a.params),
-    length-digits 256 t.widths.count_octets (length a.params), fit.widths.count_octets.1, params_most t a.params fit, few)
+    omega (
+      arith,
+      length-append (octets_of t.widths.repetition_octets a.repetition) (counted_octets t (param_octets t) a.params),
+      length-digits 256 t.widths.repetition_octets a.repetition,
+      fit.widths.repetition_octets.1,
+      length-append (octets_of t.widths.count_octets (length a.params)) (flat_map (param_octets t) a.params),
+      length-digits 256 t.widths.count_octets (length a.params),
+      fit.widths.count_octets.1,
+      params_most t a.params fit,
+      few,
+    )
 
 arrays_most : (t : TailoringParts) (once : Bool) (interval : Option ℕ) (simple : List ℕ) (earlier arrays : List SuperList) → IsFit t → AreArrays t once interval simple earlier arrays
     → AllByRecursion (λ a. length (array_octets t a) ≤ 1024) arrays
@@ -112,9 +120,12 @@ arrays_most t once interval simple earlier (a ∷ arrays) fit are = (array_most 
 lists_most : (t : TailoringParts) (once : Bool) (interval : Option ℕ) (simple : List ℕ) (arrays : List SuperList) → IsFit t → AreLists t once interval simple arrays
     → length (lists_octets t simple arrays) ≤ 600000
 lists_most t once interval simple arrays fit are =
-    omega (arith, length-append (counted_octets t (param_octets t) simple) (counted_octets t (array_octets t) arrays),
-    counted_each t (param_octets t) simple fit are.simple_count.1 (λ id. omega (arith, param_most t id fit)),
-    counted_most t (array_octets t) arrays fit are.array_count.1 (arrays_most t once interval simple [] arrays fit are.listed))
+    omega (
+      arith,
+      length-append (counted_octets t (param_octets t) simple) (counted_octets t (array_octets t) arrays),
+      counted_each t (param_octets t) simple fit are.simple_count.1 (λ id. omega (arith, param_most t id fit)),
+      counted_most t (array_octets t) arrays fit are.array_count.1 (arrays_most t once interval simple [] arrays fit are.listed),
+    )
 
 -- a structure ID, and then octets
 keyed_most : (t : TailoringParts) (id : ℕ) (rest : List ℕ) (most : ℕ) → IsFit t → length rest ≤ most → length (structure_octets t id ++ rest) ≤ 2 + most
@@ -131,13 +142,19 @@ pair_most t fit p = omega (arith, keyed_most t p.id (interval_octets t p.interva
 
 row_most : (t : TailoringParts) → IsFit t → (r : PeriodicRow) → length (st03.row_octets t r) ≤ 1024
 row_most t fit r =
-    omega (arith, keyed_most t r.id (flag_octets r.enabled ++ interval_octets t r.interval) 5 fit
-    (omega (arith, flag_and_most r.enabled (interval_octets t r.interval) 4 (interval_most t r.interval fit))))
+    omega (
+      arith,
+      keyed_most t r.id (flag_octets r.enabled ++ interval_octets t r.interval) 5 fit
+          (omega (arith, flag_and_most r.enabled (interval_octets t r.interval) 4 (interval_most t r.interval fit))),
+    )
 
 housekeeping_request : (t : TailoringParts) (r : Request03) → IsFit t → IsRequest03 t r → length (st03.request_octets t r) ≤ 1000000
 housekeeping_request t (Create key d) fit is =
-    omega (arith, keyed_most t key.id (interval_octets t d.interval ++ lists_octets t d.simple d.arrays) 600004 fit
-    (omega (arith, interval_and_most t d.interval (lists_octets t d.simple d.arrays) 600000 fit (lists_most t false (Some d.interval) d.simple d.arrays fit is.2))))
+    omega (
+      arith,
+      keyed_most t key.id (interval_octets t d.interval ++ lists_octets t d.simple d.arrays) 600004 fit
+          (omega (arith, interval_and_most t d.interval (lists_octets t d.simple d.arrays) 600000 fit (lists_most t false (Some d.interval) d.simple d.arrays fit is.2))),
+    )
 housekeeping_request t (Append key a) fit is = omega (arith, keyed_most t key.id (lists_octets t a.simple a.arrays) 600000 fit (lists_most t false None a.simple a.arrays fit is.1))
 housekeeping_request t (OnEach each kind ids) fit is = omega (arith, counted_each t (structure_octets t) ids fit is.0.1 (λ id. omega (arith, structure_most t id fit)))
 housekeeping_request t (Intervals kind pairs) fit is = omega (arith, counted_each t (pair_octets t) pairs fit is.0.1 (pair_most t fit))
@@ -183,20 +200,36 @@ verification_most t (Started id) fit is = omega (arith, length-digits 256 4 id.w
 verification_most t (NotStarted id cause) fit is = omega (arith, failure_length id cause)
 verification_most t (Step id step) fit is = omega (arith, id_and_most id (st01.step_octets t step) 2 (step_most t step fit))
 verification_most t (StepFailed id step cause) fit is =
-    omega (arith, id_and_most id (st01.step_octets t step ++ st01.cause_octets cause) 8
-    (omega (arith, length-append (st01.step_octets t step) (st01.cause_octets cause), step_most t step fit, cause_length cause)))
+    omega (
+      arith,
+      id_and_most id (st01.step_octets t step ++ st01.cause_octets cause) 8
+          (omega (arith, length-append (st01.step_octets t step) (st01.cause_octets cause), step_most t step fit, cause_length cause)),
+    )
 verification_most t (Completed id) fit is = omega (arith, length-digits 256 4 id.word)
 verification_most t (Incomplete id code steps) fit is =
-    omega (arith, id_and_most id (octets_of 2 code ++ counted_octets t (st01.step_octets t) steps) 300002
-    (omega (arith, length-append (octets_of 2 code) (counted_octets t (st01.step_octets t) steps), length-digits 256 2 code,
-    counted_each t (st01.step_octets t) steps fit is.3 (λ step. omega (arith, step_most t step fit)))))
+    omega (
+      arith,
+      id_and_most id (octets_of 2 code ++ counted_octets t (st01.step_octets t) steps) 300002
+          (omega (
+            arith,
+            length-append (octets_of 2 code) (counted_octets t (st01.step_octets t) steps),
+            length-digits 256 2 code,
+            counted_each t (st01.step_octets t) steps fit is.3 (λ step. omega (arith, step_most t step fit)),
+          )),
+    )
 verification_most t (NotRouted id cause) fit is = omega (arith, failure_length id cause)
 
 housekeeping_report : (t : TailoringParts) (r : Report03) → IsFit t → IsReport03 t r → HasRoom (tell.Hk r) → length (st03.report_octets t r) ≤ 2 ^ 31
 housekeeping_report t (told.Structure key s) fit is room =
-    omega (arith, keyed_most t key.id (flag_octets s.enabled ++ (interval_octets t s.def.interval ++ lists_octets t s.def.simple s.def.arrays)) 600005 fit
-    (omega (arith, flag_and_most s.enabled (interval_octets t s.def.interval ++ lists_octets t s.def.simple s.def.arrays) 600004
-    (omega (arith, interval_and_most t s.def.interval (lists_octets t s.def.simple s.def.arrays) 600000 fit (lists_most t true (Some s.def.interval) s.def.simple s.def.arrays fit is.2))))))
+    omega (
+      arith,
+      keyed_most t key.id (flag_octets s.enabled ++ (interval_octets t s.def.interval ++ lists_octets t s.def.simple s.def.arrays)) 600005 fit
+          (omega (
+            arith,
+            flag_and_most s.enabled (interval_octets t s.def.interval ++ lists_octets t s.def.simple s.def.arrays) 600004
+                (omega (arith, interval_and_most t s.def.interval (lists_octets t s.def.simple s.def.arrays) 600000 fit (lists_most t true (Some s.def.interval) s.def.simple s.def.arrays fit is.2))),
+          )),
+    )
 housekeeping_report t (told.Values key payload) fit is room = omega (arith, keyed_most t key.id payload (2 ^ 30) fit room)
 housekeeping_report t (told.Periodic kind rows) fit is room = omega (arith, counted_each t (st03.row_octets t) rows fit is.0.1 (row_most t fit))
 
@@ -207,19 +240,41 @@ stat_row_most t fit r =
     let min = value_octets t r.param r.min ++ last in
     let times = time_octets t r.max_time ++ min in
     let max = value_octets t r.param r.max ++ times in
-    omega (arith, length-append (param_octets t r.param) (octets_of 4 r.count ++ max), length-append (octets_of 4 r.count) max, length-append (value_octets t r.param r.max) times,
-    length-append (time_octets t r.max_time) min, length-append (value_octets t r.param r.min) last, length-append (time_octets t r.min_time) mean,
-    param_most t r.param fit, length-digits 256 4 r.count, value_most t r.param r.max fit, time_most t r.max_time fit, value_most t r.param r.min fit, time_most t r.min_time fit,
-    field_most t r.param t.widths.mean_fraction r.mean fit, fit.widths.mean_fraction)
+    omega (
+      arith,
+      length-append (param_octets t r.param) (octets_of 4 r.count ++ max),
+      length-append (octets_of 4 r.count) max,
+      length-append (value_octets t r.param r.max) times,
+      length-append (time_octets t r.max_time) min,
+      length-append (value_octets t r.param r.min) last,
+      length-append (time_octets t r.min_time) mean,
+      param_most t r.param fit,
+      length-digits 256 4 r.count,
+      value_most t r.param r.max fit,
+      time_most t r.max_time fit,
+      value_most t r.param r.min fit,
+      time_most t r.min_time fit,
+      field_most t r.param t.widths.mean_fraction r.mean fit,
+      fit.widths.mean_fraction,
+    )
 
 statistics_report : (t : TailoringParts) (r : Report04) → IsFit t → st04.IsReport t r → length (st04.report_octets t r) ≤ 1000000
 statistics_report t (told04.Statistics r) fit is =
     let rows = counted_octets t (st04.row_octets t) r.rows in
-    omega (arith, length-append (time_octets t r.start) (time_octets t r.end ++ rows), length-append (time_octets t r.end) rows, time_most t r.start fit, time_most t r.end fit,
-    counted_each t (st04.row_octets t) r.rows fit is.rows.count.1 (stat_row_most t fit))
+    omega (
+      arith,
+      length-append (time_octets t r.start) (time_octets t r.end ++ rows),
+      length-append (time_octets t r.end) rows,
+      time_most t r.start fit,
+      time_most t r.end fit,
+      counted_each t (st04.row_octets t) r.rows fit is.rows.count.1 (stat_row_most t fit),
+    )
 statistics_report t (told04.Definitions enabled n ids) fit is =
-    omega (arith, flag_and_most enabled (interval_octets t n ++ counted_octets t (param_octets t) ids) 300004
-    (omega (arith, interval_and_most t n (counted_octets t (param_octets t) ids) 300000 fit (ids_most t ids fit is.1.count.1))))
+    omega (
+      arith,
+      flag_and_most enabled (interval_octets t n ++ counted_octets t (param_octets t) ids) 300004
+          (omega (arith, interval_and_most t n (counted_octets t (param_octets t) ids) 300000 fit (ids_most t ids fit is.1.count.1))),
+    )
 
 -- the body of a report of the grammar
 pub report_most : (t : TailoringParts) (b : ReportBody) → IsFit t → IsReportBody t b → HasRoom b → length (report_body_octets t b) ≤ 2 ^ 31

@@ -50,11 +50,7 @@ pub fn read_report(
     report_in(alloc, tailoring, bytes)
 }
 
-fn request_in(
-    alloc: Global,
-    tailoring: &Tailoring,
-    bytes: &[u8],
-) -> Result<Request, MessageFault>
+fn request_in(alloc: Global, tailoring: &Tailoring, bytes: &[u8]) -> Result<Request, MessageFault>
     requires size { length bytes.now ≤ 2 ^ 31 }
     ensures gives { Gives (λ request. request) result (request_of tailoring.now bytes.now) }
 {
@@ -63,11 +59,7 @@ fn request_in(
     Ok(Request { header, body })
 }
 
-fn report_in(
-    alloc: Global,
-    tailoring: &Tailoring,
-    bytes: &[u8],
-) -> Result<Report, MessageFault>
+fn report_in(alloc: Global, tailoring: &Tailoring, bytes: &[u8]) -> Result<Report, MessageFault>
     requires size { length bytes.now ≤ 2 ^ 31 }
     ensures gives { Gives (λ report. report) result (report_of tailoring.now bytes.now) }
 {

@@ -36,11 +36,7 @@ pub fn write_report(
 }
 
 /// The octets of a request's body.
-fn request_body(
-    alloc: Global,
-    tailoring: &Tailoring,
-    body: &RequestBody,
-) -> Result<Octets, Memory>
+fn request_body(alloc: Global, tailoring: &Tailoring, body: &RequestBody) -> Result<Octets, Memory>
     requires { IsRequestBody tailoring.now body.now }
     ensures octets { IfOk result (λ octets. octets ≡ request_body_octets tailoring.now body.now) }
     ensures short { IfOk result (λ octets. length octets ≤ 2 ^ 31) }
@@ -52,11 +48,7 @@ fn request_body(
 }
 
 /// The octets of a report's body.
-fn report_body(
-    alloc: Global,
-    tailoring: &Tailoring,
-    body: &ReportBody,
-) -> Result<Octets, Memory>
+fn report_body(alloc: Global, tailoring: &Tailoring, body: &ReportBody) -> Result<Octets, Memory>
     requires body { IsReportBody tailoring.now body.now }
     requires room { HasRoom body.now }
     ensures octets { IfOk result (λ octets. octets ≡ report_body_octets tailoring.now body.now) }

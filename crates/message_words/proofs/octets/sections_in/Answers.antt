@@ -12,4 +12,4 @@ pub returns : goal.returns
 returns c =
     IfOk-weaker c.collect.result _ _ (λ parts e. split-viewed (λ word. word.now) (λ part. part.now) is_array parts.items c.args.words.now e)
     (map_from_collect _ c.collect.ensures.ran
-      (YieldsList-from_slice_split _ (λ word. is_array word.now) c.args.words.now c.split.ensures.rest c.split.ensures.done c.split.ensures.closure (λ x b q k. search rules)))
+    (YieldsList-from_slice_split _ (λ word. is_array word.now) c.args.words.now c.split.ensures.rest c.split.ensures.done c.split.ensures.closure (λ x b q k. search rules)))

@@ -35,6 +35,6 @@ returns-in_ok-push_named-in-Incomplete c =
     let code : List (List ℕ) = codes "code" ∷ decimal c.in-Incomplete.code ∷ [] in
     let steps : List (List ℕ) = flat_map refused_words c.in-Incomplete.steps in
     rw c.in-Incomplete.is
-      (on_ok_weaker c.push_refused.result
-      (λ e. joined before then after id (code ++ steps) c.in_ok-push_id-in-Incomplete.ensures (joined then next after code steps (search rules) (search rules)))
-      c.push_refused.ensures)
+    (on_ok_weaker c.push_refused.result
+    (λ e. joined before then after id (code ++ steps) c.in_ok-push_id-in-Incomplete.ensures (joined then next after code steps (search rules) (search rules)))
+    c.push_refused.ensures)

@@ -10,4 +10,4 @@ returns c =
     c.from_vec.ensures
     ∙ ap (λ (v : Vec ℕ Global). v.items) c.into_bytes.ensures.value
     ∙ line_is (decimal r.header.tag) _ _ _ (type_word r.header.service r.header.subtype ∷ []) (report_body_words r.body)
-      (c.in_ok-write.ensures.bytes ∙ ap (λ start. start ++ decimal r.header.tag) c.new-line.ensures.bytes) c.in_ok-push_type.ensures c.in_ok-push_body.ensures
+    (c.in_ok-write.ensures.bytes ∙ ap (λ start. start ++ decimal r.header.tag) c.new-line.ensures.bytes) c.in_ok-push_type.ensures c.in_ok-push_body.ensures

@@ -12,6 +12,6 @@ returns-in_ok-push_word-in-Report c =
     let before : List ℕ = string_bytes c.args.line.now in
     let word : List ℕ = codes "report-values" in
     rw c.in-Report.is
-      (on_ok_weaker c.push_numbers.result
-      (λ e. joined before _ _ (word ∷ []) (map decimal c.as_slice.result.now) c.in_ok-push_word-in-Report.ensures e ∙ ap (λ ids. before ++ tail (word ∷ map decimal ids)) c.as_slice.ensures)
-      c.push_numbers.ensures)
+    (on_ok_weaker c.push_numbers.result
+    (λ e. joined before _ _ (word ∷ []) (map decimal c.as_slice.result.now) c.in_ok-push_word-in-Report.ensures e ∙ ap (λ ids. before ++ tail (word ∷ map decimal ids)) c.as_slice.ensures)
+    c.push_numbers.ensures)

@@ -10,5 +10,5 @@ returns c =
     c.from_vec.ensures
     ∙ ap (λ (v : Vec ℕ Global). v.items) c.into_bytes.ensures.value
     ∙ line_is (decimal r.header.count) _ _ _ (hex 1 c.from.result ∷ []) (request_body_words r.body)
-      (c.in_ok-write.ensures.bytes ∙ ap (λ start. start ++ decimal r.header.count) c.new-line.ensures.bytes) c.in_ok-push_hex.ensures c.in_ok-push_body.ensures
+    (c.in_ok-write.ensures.bytes ∙ ap (λ start. start ++ decimal r.header.count) c.new-line.ensures.bytes) c.in_ok-push_hex.ensures c.in_ok-push_body.ensures
     ∙ ap (λ flags. text_of_words (decimal r.header.count ∷ hex 1 flags ∷ request_body_words r.body)) c.from.ensures

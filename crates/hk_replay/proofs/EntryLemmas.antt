@@ -2,13 +2,13 @@
 use Rattle.std.proofs.Common.{◌≡◌, ℕ, List, ◌++◌, Option, Some, None, Result, Ok, Err, refl, sym, ap, subst, ◌∙◌}
 use Rattle.std.specs.Prelude.{IfSome, IsSome, MatchResult}
 use Rattle.hk_base.specs.TailoringParts.{TailoringParts}
-use Rattle.std.specs.Result.{result_unwrap_or}
-use Rattle.session_record.specs.Records.{Entries, entries_from}
-use Rattle.session_record.specs.Reading.{Reading, Answers, IsFirst, no_entries, read_on, reading_at_start, to_come}
+use Rattle.session_record.specs.Records.{Entries}
+use Rattle.session_record.specs.Reading.{Reading, Answers, IsFirst, no_entries, reading_at_start, to_come}
 use Rattle.session_record.specs.declared.header.Header.{Header}
 use Rattle.session_record.specs.declared.entry.Entry.{Entry}
 use Rattle.session_record.specs.declared.entry.RecordFault.{RecordFault}
 use Rattle.session_record.specs.declared.entry.RecordFault.TheVariants.{BadMagic, BadKind, Cut, TooLong, TooManyEntries, ReadFault, Memory}
+use Rattle.record_commands.proofs.ToComeLemmas.{none_told, header_of_rest}
 use Rattle.hk_replay.specs.Faults.{status_of_fault}
 use Rattle.hk_replay.specs.Transcripts.{Lines, Outcome, stopped, no_lines, with_entry, with_entries, ended, ended_by, outcome_from, replay_outcome}
 use Rattle.hk_replay.specs.Replay.{EndsWith, EndsTo}
@@ -16,9 +16,6 @@ use Rattle.hk_replay.specs.Replay.{EndsWith, EndsTo}
 -- what is still to come, after the lines so far, has the outcome of the whole record
 abbrev pub KeepsOutcome : TailoringParts → Option (List ℕ) → Option Lines → Reading → Option (List ℕ) → Type 0
 KeepsOutcome t was lines reader rest = IfSome was (λ octets. IfSome rest (λ left. outcome_from t lines (to_come reader left) ≡ replay_outcome t octets) × IsSome rest)
-
-pub none_told : IsSome {T = List ℕ} None → ⊥
-none_told e = cc
 
 pub keeps_start : (t : TailoringParts) (was : Option (List ℕ)) → KeepsOutcome t was (Some no_lines) reading_at_start was
 unfolding replay_outcome
@@ -37,16 +34,6 @@ keeps_more t None mid after lines r s x keeps answer = tt
 keeps_more t (Some octets) None after lines r s x keeps answer = absurd (none_told keeps.1)
 keeps_more t (Some octets) (Some m) None lines r s x keeps answer = absurd (none_told answer.1)
 keeps_more t (Some octets) (Some m) (Some a) lines r s x keeps answer = (first_more t lines x.0 x.1 (to_come r m) (to_come s a) answer.0 ∙ keeps.0, refl)
-
-same_ok : (x y : Header × Entries) → ◌≡◌ {A = Result (Header × Entries) RecordFault} (Ok x) (Ok y) → x.0 ≡ y.0
-same_ok x y e = ap (λ r. (result_unwrap_or r x).0) e
-
-same_header : (h : Header) (fault : Option RecordFault) (room offset : ℕ) (octets : List ℕ) (b : Header × Entries) → read_on (Some h) fault room offset octets ≡ Ok b → b.0 ≡ h
-same_header h None room offset octets b e = sym (same_ok (h, entries_from room offset octets) b e)
-same_header h (Some fault) room offset octets b e = sym (same_ok (h, no_entries (Some fault)) b e)
-
-pub header_of_rest : (s : Reading) (a : List ℕ) (b : Header × Entries) (h : Header) → s.header ≡ Some h → to_come s a ≡ Ok b → b.0 ≡ h
-header_of_rest s a b h is e = same_header h s.fault s.room s.offset (s.held ++ a) b (ap (λ o. read_on o s.fault s.room s.offset (s.held ++ a)) (sym is) ∙ e)
 
 end_is : (t : TailoringParts) (lines : Option Lines) (before after : Result (Header × Entries) RecordFault) (o : Outcome)
     → outcome_from t lines before ≡ o → IsFirst (Ok None) before after → (b : Header × Entries) × (after ≡ Ok b) × (o ≡ ended b.0 lines)

@@ -22,12 +22,12 @@ use Rattle.hk_world.specs.declared.moment.Moment.{Moment}
 use Rattle.hk_world.proofs.UndisturbedLemmas.{delivered_reports, structures_unchanged, structures_reported}
 use Rattle.hk_replay.specs.Blocks.{Block, block_lines, rows_of, packet_block}
 use Rattle.hk_replay.specs.Transcripts.{Lines, Outcome, written, no_lines, with_block, with_entry, with_entries, ended, outcome_from, replay_outcome}
-use Rattle.hk_replay.specs.Words.{Command, replay, check, trim}
+use Rattle.hk_replay.specs.Words.{Command, replay, show, encode, check, trim}
 use Rattle.hk_replay.specs.Replay.{HasOutput}
 use Rattle.hk_replay.specs.Inputs.{TellsOf, Replays}
 use Rattle.hk_replay.specs.Truth.{seen, IsRecordOf, delivered, IsTrueBlock, IsTrueText, IsTrueRun}
 use Rattle.hk_replay.specs.declared.status.ReplayStatus.{ReplayStatus}
-use Rattle.hk_replay.specs.declared.status.ReplayStatus.TheVariants.{Done, Usage, Tailoring, Record, ReadFault, WriteFault, NoMemory, NotBuilt}
+use Rattle.hk_replay.specs.declared.status.ReplayStatus.TheVariants.{Done, Usage, Tailoring, Record, ReadFault, WriteFault, NoMemory, Text, NotBuilt}
 use Rattle.hk_replay.proofs.BlockLemmas.{report_is_read, map-zip, row-zip, filed_later}
 
 -- a moment whose packet has a true block
@@ -210,6 +210,7 @@ true_run_by w (Record problem) text before after is h = h.0
 true_run_by w ReadFault text before after is h = h.1
 true_run_by w WriteFault text before after is h = (text, is, h)
 true_run_by w NoMemory text before after is h = (text, is, h)
+true_run_by w (Text line) text before after is h = h.0
 true_run_by w NotBuilt text before after is h = h.0
 
 -- what a run on the record of a world writes is true
@@ -226,6 +227,8 @@ replay_tells : (command : Option Command) (files : Option (List (List ℕ × Lis
 replay_tells None files t octets r = absurd r
 replay_tells (Some (check tailoring)) files t octets r = absurd r
 replay_tells (Some (trim name)) files t octets r = absurd r
+replay_tells (Some (show tailoring name)) files t octets r = absurd r
+replay_tells (Some (encode tailoring name)) files t octets r = absurd r
 replay_tells (Some (replay tailoring name)) files t octets r = (Ok t, r.0, ap (option_map (replay_outcome t)) r.1)
 
 -- what a run writes is true of the world whose record it replays

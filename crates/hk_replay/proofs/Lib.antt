@@ -2,6 +2,6 @@ pub mod LineLemmas
 pub mod EntryLemmas
 pub mod BlockLemmas
 pub mod HeadlineLemmas
-pub mod TrimLemmas
+pub mod GivenLemmas
+pub mod ShownLemmas
 pub mod TailoringLemmas
-pub mod FileLemmas

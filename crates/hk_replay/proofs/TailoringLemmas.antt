@@ -118,6 +118,7 @@ free_end status.Usage h outcome = absurd h
 free_end (status.Tailoring f) h outcome = absurd h
 free_end (status.Record p) h outcome = absurd h
 free_end status.WriteFault h outcome = absurd h
+free_end (status.Text line) h outcome = absurd h
 free_end status.NotBuilt h outcome = absurd h
 
 pub free_meant : (s : ReplayStatus) → EndsWith s (written []) → (meant : Result TailoringParts TailoringFault) → IsMeant (Err s) meant

@@ -1,7 +1,9 @@
 -- A command without where its words lie in memory.
 use Rattle.hk_replay.specs.Words as words
 use Rattle.hk_replay.specs.declared.words.Command.{Command}
-use Rattle.hk_replay.specs.declared.words.Command.TheVariants.{Replay, Check, Trim}
+use Rattle.hk_replay.specs.declared.words.Command.TheVariants.{Make, Show}
+use Rattle.hk_replay.specs.declared.words.Job.{Job}
+use Rattle.hk_replay.specs.declared.words.Job.TheVariants.{Replay, Encode, Check, Trim}
 use Rattle.hk_replay.specs.declared.words.TailoringName.{TailoringName}
 use Rattle.hk_replay.specs.declared.words.TailoringName.TheVariants.{Builtin, File}
 
@@ -10,8 +12,14 @@ abbrev pub named : TailoringName → words.TailoringName
 named Builtin = words.standard
 named (File name) = words.in_file name.now
 
+-- what is made of the inputs
+abbrev pub asked_job : Job → words.Command
+asked_job (Replay tailoring name) = words.replay (named tailoring) name.now
+asked_job (Encode tailoring name) = words.encode (named tailoring) name.now
+asked_job (Check tailoring) = words.check (named tailoring)
+asked_job (Trim name) = words.trim name.now
+
 -- what a run is asked to do
 abbrev pub asked : Command → words.Command
-asked (Replay tailoring name) = words.replay (named tailoring) name.now
-asked (Check tailoring) = words.check (named tailoring)
-asked (Trim name) = words.trim name.now
+asked (Make job) = asked_job job
+asked (Show tailoring name) = words.show (named tailoring) name.now

@@ -6,9 +6,15 @@ use Rattle.hk_tailoring.specs.declared.fault.TailoringFault.{TailoringFault}
 use Rattle.hk_tailoring.specs.declared.fault.TailoringFault.TheVariants.{Memory}
 use Rattle.session_record.specs.declared.entry.RecordFault.{RecordFault}
 use Rattle.session_record.specs.declared.entry.RecordFault.TheVariants as fault
+use Rattle.record_commands.specs.declared.input.InputFault.{InputFault}
+use Rattle.record_commands.specs.declared.input.InputFault.TheVariants as input
+use Rattle.record_commands.specs.declared.showing.ShowFault.{ShowFault}
+use Rattle.record_commands.specs.declared.showing.ShowFault.TheVariants as showing
+use Rattle.record_commands.specs.declared.encoding.EncodeFault.{EncodeFault}
+use Rattle.record_commands.specs.declared.encoding.EncodeFault.TheVariants as encoding
 use Rattle.hk_replay.specs.declared.status.RecordProblem.TheVariants.{Format}
 use Rattle.hk_replay.specs.declared.status.ReplayStatus.{ReplayStatus}
-use Rattle.hk_replay.specs.declared.status.ReplayStatus.TheVariants.{Done, Usage, Tailoring, Record, ReadFault, WriteFault, NoMemory, NotBuilt}
+use Rattle.hk_replay.specs.declared.status.ReplayStatus.TheVariants.{Done, Usage, Tailoring, Record, ReadFault, WriteFault, NoMemory, Text, NotBuilt}
 
 -- the exit status of the program
 abbrev pub status_number : ReplayStatus → ℕ
@@ -19,6 +25,7 @@ status_number (Record problem) = 4
 status_number ReadFault = 5
 status_number WriteFault = 6
 status_number NoMemory = 7
+status_number (Text line) = 8
 status_number NotBuilt = 20
 
 -- how a run ends by a fault of reading the record: a failing shelf and want of memory have statuses of their own
@@ -30,6 +37,22 @@ status_of_fault (fault.BadKind octet offset) = Record (Format (fault.BadKind oct
 status_of_fault (fault.Cut offset) = Record (Format (fault.Cut offset))
 status_of_fault (fault.TooLong offset) = Record (Format (fault.TooLong offset))
 status_of_fault (fault.TooManyEntries offset) = Record (Format (fault.TooManyEntries offset))
+
+-- how a run ends by a fault of reading a whole input
+abbrev pub status_of_input : InputFault → ReplayStatus
+status_of_input input.ReadFault = ReadFault
+status_of_input input.Memory = NoMemory
+
+-- how a run ends that showed the entries before a fault
+abbrev pub status_of_showing : ShowFault → ReplayStatus
+status_of_showing (showing.Record f) = status_of_fault f
+status_of_showing showing.WriteFault = WriteFault
+
+-- how a run ends that made no record of lines
+abbrev pub status_of_encoding : EncodeFault → ReplayStatus
+status_of_encoding (encoding.Line line) = Text line
+status_of_encoding encoding.ReadFault = ReadFault
+status_of_encoding encoding.Memory = NoMemory
 
 -- how a run ends by a fault of its tailoring: want of memory has a status of its own
 abbrev pub status_of_tailoring : TailoringFault → ReplayStatus
@@ -55,4 +78,5 @@ fault_text (Record (Format f)) = format_text f
 fault_text ReadFault = codes "read fault"
 fault_text WriteFault = codes "write fault"
 fault_text NoMemory = codes "no memory"
+fault_text (Text line) = codes "line " ++ decimal line
 fault_text NotBuilt = codes "not built"

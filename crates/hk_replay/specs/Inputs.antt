@@ -1,5 +1,5 @@
 -- What the files of a run hold, and what is made of them.
-use Rattle.std.specs.Prelude.{◌≡◌, ℕ, true, false, List, [], ◌∷◌, ◌++◌, length, nat_lt, Option, Some, None, Result, Ok, Err, IfSome, IsSome, codes, if◌then◌else◌}
+use Rattle.std.specs.Prelude.{◌≡◌, ◌⊎◌, ⊤, ℕ, true, false, List, [], ◌∷◌, ◌++◌, length, nat_lt, Option, Some, None, Result, Ok, Err, IfSome, IsSome, codes, if◌then◌else◌}
 use Rattle.std.specs.Option.{option_and_then, option_map}
 use Rattle.std.specs.Fmt.{decimal}
 use Rattle.hk_base.specs.Outside.{file_of}
@@ -8,8 +8,10 @@ use Rattle.hk_base.specs.Builtin.{builtin}
 use Rattle.hk_tailoring.specs.Files.{file_fault, IsOf}
 use Rattle.hk_tailoring.specs.declared.fault.TailoringFault.{TailoringFault}
 use Rattle.hk_tailoring.specs.declared.fault.TailoringFault.TheVariants.{TooLong}
-use Rattle.hk_replay.specs.Words.{TailoringName, standard, in_file, Command, replay, check, trim}
-use Rattle.hk_replay.specs.Transcripts.{Outcome, written, stopped, replay_outcome, trim_outcome}
+use Rattle.record_commands.specs.Input.{IsEndOf}
+use Rattle.record_commands.specs.Showing.{IsShownAsGiven}
+use Rattle.hk_replay.specs.Words.{TailoringName, standard, in_file, Command, replay, show, encode, check, trim}
+use Rattle.hk_replay.specs.Transcripts.{Outcome, written, stopped, replay_outcome, show_outcome, encode_outcome, trim_outcome}
 use Rattle.hk_replay.specs.Replay.{EndsWith}
 use Rattle.hk_replay.specs.declared.status.ReplayStatus.{ReplayStatus}
 use Rattle.hk_replay.specs.declared.status.ReplayStatus.TheVariants.{Tailoring}
@@ -57,14 +59,20 @@ abbrev pub check_outcome : Result TailoringParts TailoringFault → Outcome
 check_outcome (Ok t) = written (check_text t)
 check_outcome (Err fault) = stopped (Tailoring fault)
 
--- The outcome of `replay` under what is meant by its tailoring. A fault of the tailoring comes before the record is looked for.
-abbrev pub replay_told : Option (List ℕ) → Result TailoringParts TailoringFault → Option Outcome
-replay_told octets (Ok t) = option_map (replay_outcome t) octets
-replay_told octets (Err fault) = Some (stopped (Tailoring fault))
+-- The outcome of a command on an input under what is meant by its tailoring. A fault of the tailoring comes before the input is looked for.
+abbrev pub told_under : (TailoringParts → List ℕ → Outcome) → Option (List ℕ) → Result TailoringParts TailoringFault → Option Outcome
+told_under outcome octets (Ok t) = option_map (outcome t) octets
+told_under outcome octets (Err fault) = Some (stopped (Tailoring fault))
+
+-- the files tell the outcome of a command with a tailoring and another input
+abbrev pub TellsUnder : (TailoringParts → List ℕ → Outcome) → Option (List (List ℕ × List ℕ)) → TailoringName → List ℕ → Outcome → Type 0
+TellsUnder outcome files tailoring name told = (meant : Result TailoringParts TailoringFault) × StandsFor files tailoring meant × (told_under outcome (octets_of files name) meant ≡ Some told)
 
 -- the files tell the outcome of a command, if all goes well
 abbrev pub Tells : Option (List (List ℕ × List ℕ)) → Command → Outcome → Type 0
-Tells files (replay tailoring name) outcome = (meant : Result TailoringParts TailoringFault) × StandsFor files tailoring meant × (replay_told (octets_of files name) meant ≡ Some outcome)
+Tells files (replay tailoring name) outcome = TellsUnder replay_outcome files tailoring name outcome
+Tells files (show tailoring name) outcome = TellsUnder show_outcome files tailoring name outcome
+Tells files (encode tailoring name) outcome = TellsUnder encode_outcome files tailoring name outcome
 Tells files (check tailoring) outcome = (meant : Result TailoringParts TailoringFault) × StandsFor files tailoring meant × (check_outcome meant ≡ outcome)
 Tells files (trim name) outcome = option_map trim_outcome (octets_of files name) ≡ Some outcome
 
@@ -77,3 +85,27 @@ TellsOf files (Some command) outcome = Tells files command outcome
 abbrev pub Replays : Option (List (List ℕ × List ℕ)) → Option Command → TailoringParts → List ℕ → Type 0
 Replays files (Some (replay tailoring name)) t octets = StandsFor files tailoring (Ok t) × (octets_of files name ≡ Some octets)
 Replays files command t octets = ⊥
+
+-- words say to show these octets under this tailoring
+abbrev pub ShowsRecord : Option (List (List ℕ × List ℕ)) → Option Command → TailoringParts → List ℕ → Type 0
+ShowsRecord files (Some (show tailoring name)) t octets = StandsFor files tailoring (Ok t) × (octets_of files name ≡ Some octets)
+ShowsRecord files command t octets = ⊥
+
+-- the shelf stands where it stood at the start, or else in the file of the tailoring
+abbrev pub IsBeforeRecord : Option (List (List ℕ × List ℕ)) → TailoringName → Option (List ℕ) → Option (List ℕ) → Type 0
+IsBeforeRecord files standard before now = now ≡ before
+IsBeforeRecord files (in_file name) before now = (now ≡ before) ⊎ IsEndOf (octets_of files name) now
+
+-- what was written before the shelf failed that was to select a record: nothing, where it didn't; else the lines of every entry whose octets it gave in full
+abbrev pub HasShownFrom : TailoringParts → List ℕ → Option (List ℕ) → Option (List ℕ) → Option (List ℕ) → Option (List ℕ) → Type 0
+HasShownFrom t octets start left before after = ((left ≡ start) × (after ≡ before)) ⊎ IsShownAsGiven t octets left before after
+
+-- What `show` wrote before the shelf failed: nothing, where the record wasn't selected; else the lines of every entry whose octets the shelf gave in full.
+abbrev pub HasShownBefore : Option (List (List ℕ × List ℕ)) → TailoringName → TailoringParts → List ℕ → Option (List ℕ) → Option (List ℕ) → Option (List ℕ) → Option (List ℕ) → Type 0
+HasShownBefore files tailoring t octets start left before after =
+    (IsBeforeRecord files tailoring start left × (after ≡ before)) ⊎ IsShownAsGiven t octets left before after
+
+-- the same of words that are to show a record
+abbrev pub HasShown : Option (List (List ℕ × List ℕ)) → Option Command → TailoringParts → List ℕ → Option (List ℕ) → Option (List ℕ) → Option (List ℕ) → Option (List ℕ) → Type 0
+HasShown files (Some (show tailoring name)) t octets start left before after = HasShownBefore files tailoring t octets start left before after
+HasShown files command t octets start left before after = ⊤

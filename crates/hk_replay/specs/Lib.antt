@@ -3,7 +3,6 @@ pub mod Blocks
 pub mod Transcripts
 pub mod Words
 pub mod Asked
-pub mod Trimming
 pub mod Replay
 pub mod Inputs
 pub mod Truth

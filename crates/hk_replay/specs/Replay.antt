@@ -1,10 +1,11 @@
 -- What the program promises of one run.
-use Rattle.std.specs.Prelude.{◌≡◌, ◌≤◌, ⊤, ℕ, List, ◌++◌, Option, Some, Result, Ok, Err, IfSome, IfErr, length}
+use Rattle.std.specs.Prelude.{◌≡◌, ⊤, ℕ, List, Option, Some, Result, Ok, Err, IfSome, IfErr}
 use Rattle.session_record.specs.declared.header.Header.{Header}
-use Rattle.hk_replay.specs.Transcripts.{Lines, Outcome, written, stopped, ended}
-use Rattle.session_record.specs.Writing.{HasWritten}
+use Rattle.hk_replay.specs.Transcripts.{Lines, Outcome, written, stopped, listed, ended}
+use Rattle.record_commands.specs.Written.{IsWritten, IsPrefixWritten}
+use Rattle.hk_replay.specs.Words.{Command, show}
 use Rattle.hk_replay.specs.declared.status.ReplayStatus.{ReplayStatus}
-use Rattle.hk_replay.specs.declared.status.ReplayStatus.TheVariants.{Done, Usage, ReadFault, WriteFault, NoMemory}
+use Rattle.hk_replay.specs.declared.status.ReplayStatus.TheVariants.{Done, Usage, Record, ReadFault, WriteFault, NoMemory}
 
 -- A run that ended before it wrote anything, by what there was to write. A failing shelf and want of memory end any run.
 abbrev pub EndsWith : ReplayStatus → Outcome → Type 0
@@ -12,6 +13,7 @@ EndsWith ReadFault outcome = ⊤
 EndsWith NoMemory outcome = ⊤
 EndsWith status (stopped known) = status ≡ known
 EndsWith status (written text) = ⊥
+EndsWith status (listed text known) = ⊥
 
 -- what was read is the outcome of the record's octets
 abbrev pub ReadsTo : {X : Type 0} → (X → List ℕ) → Result X ReplayStatus → Outcome → Type 0
@@ -38,27 +40,34 @@ IsReadingStatus status = IsEarlyStatus status
 abbrev pub IsOfReading : {X : Type 0} → Result X ReplayStatus → Type 0
 IsOfReading result = IfErr result IsReadingStatus
 
--- a failure comes before anything is written
-abbrev pub IsEarly : {X : Type 0} → Result X ReplayStatus → Type 0
-IsEarly result = IfErr result IsEarlyStatus
+-- nothing was written where a run ended before its text was whole
+abbrev pub WritesNothingEarly : ReplayStatus → Option (List ℕ) → Option (List ℕ) → Type 0
+WritesNothingEarly Done before after = ⊤
+WritesNothingEarly WriteFault before after = ⊤
+WritesNothingEarly NoMemory before after = ⊤
+WritesNothingEarly status before after = after ≡ before
 
--- nothing was written where the run ended early
-abbrev pub WritesNothing : ReplayStatus → Option (List ℕ) → Option (List ℕ) → Type 0
-WritesNothing Done before after = ⊤
-WritesNothing WriteFault before after = ⊤
-WritesNothing NoMemory before after = ⊤
-WritesNothing status before after = after ≡ before
+-- nothing was written where a run ended that writes while it reads, and neither its record nor the shelf was the cause
+abbrev pub WritesNothingElse : ReplayStatus → Option (List ℕ) → Option (List ℕ) → Type 0
+WritesNothingElse (Record problem) before after = ⊤
+WritesNothingElse ReadFault before after = ⊤
+WritesNothingElse status before after = WritesNothingEarly status before after
 
--- a first part of a text was written
-abbrev pub IsPrefixWritten : Option (List ℕ) → List ℕ → Option (List ℕ) → Type 0
-IsPrefixWritten before text after = (count : ℕ) × (count ≤ length text) × HasWritten before text count after
+-- Nothing was written with most statuses. `show` alone writes while it reads.
+abbrev pub WritesNothing : Option Command → ReplayStatus → Option (List ℕ) → Option (List ℕ) → Type 0
+WritesNothing (Some (show tailoring name)) status before after = WritesNothingElse status before after
+WritesNothing command status before after = WritesNothingEarly status before after
 
--- all of a text was written
-abbrev pub IsWritten : Option (List ℕ) → List ℕ → Option (List ℕ) → Type 0
-IsWritten before text after = IfSome before (λ taken. after ≡ Some (taken ++ text))
+-- what was written of lines, by the status and the status that was to come after the last of them: all of them, or a first part
+abbrev pub HasListed : ReplayStatus → List ℕ → ReplayStatus → Option (List ℕ) → Option (List ℕ) → Type 0
+HasListed ReadFault text known before after = IsPrefixWritten before text after
+HasListed WriteFault text known before after = IsPrefixWritten before text after
+HasListed NoMemory text known before after = IsPrefixWritten before text after
+HasListed status text known before after = (status ≡ known) × IsWritten before text after
 
 -- what was written, by the status and what there was to write: the whole text, a first part of it, or nothing
 abbrev pub HasOutput : ReplayStatus → Outcome → Option (List ℕ) → Option (List ℕ) → Type 0
+HasOutput status (listed text known) before after = HasListed status text known before after
 HasOutput Done (written text) before after = IsWritten before text after
 HasOutput WriteFault (written text) before after = IsPrefixWritten before text after
 HasOutput NoMemory (written text) before after = IsPrefixWritten before text after

@@ -1,16 +1,18 @@
 -- What is written for a record: the blocks of its reports in order, or the reason why nothing is.
-use Rattle.std.specs.Prelude.{ℕ, List, [], ◌∷◌, ◌++◌, flat_map, not, ◌&&◌, nat_lt, Option, Some, None, Result, Ok, Err, if◌then◌else◌}
+use Rattle.std.specs.Prelude.{ℕ, List, [], ◌∷◌, ◌++◌, not, ◌&&◌, nat_lt, Option, Some, None, Result, Ok, Err, if◌then◌else◌}
 use Rattle.hk_base.specs.TailoringParts.{TailoringParts}
-use Rattle.session_record.specs.Records.{Entries, entry_octets, header_octets, read_record}
+use Rattle.session_record.specs.Records.{Entries, read_record, record_fault}
 use Rattle.session_record.specs.declared.header.Header.{Header}
 use Rattle.session_record.specs.declared.entry.Entry.{Entry}
 use Rattle.session_record.specs.declared.entry.Entry.TheVariants.{Sent, Got, Line}
 use Rattle.session_record.specs.declared.entry.RecordFault.{RecordFault}
-use Rattle.session_record.specs.declared.entry.RecordFault.TheVariants.{Cut}
+use Rattle.record_commands.specs.Trimming.{trimmed_octets}
+use Rattle.record_commands.specs.Showing.{show_text}
+use Rattle.record_commands.specs.Encoding.{encoded}
 use Rattle.hk_replay.specs.Blocks.{Block, block_lines, packet_block}
 use Rattle.hk_replay.specs.Faults.{status_of_fault}
 use Rattle.hk_replay.specs.declared.status.ReplayStatus.{ReplayStatus}
-use Rattle.hk_replay.specs.declared.status.ReplayStatus.TheVariants.{NotBuilt}
+use Rattle.hk_replay.specs.declared.status.ReplayStatus.TheVariants.{Done, Text, NotBuilt}
 
 -- the lines of the reports so far, and the tag of the last one
 pub record Lines : Type 0 where
@@ -38,10 +40,11 @@ abbrev pub with_entries : TailoringParts → Option Lines → List (ℕ × Entry
 with_entries t before [] = before
 with_entries t before (x ∷ xs) = with_entries t (with_entry t before x.1) xs
 
--- what a run makes of a record, if all goes well: a text, or the status by which it ends without one
+-- What a run comes to, if all goes well: a text that is written when it is whole; the status by which it ends without one; or lines that are written as they are made, and the status by which it ends after the last of them.
 pub data Outcome : Type 0 where
   written : List ℕ → Outcome
   stopped : ReplayStatus → Outcome
+  listed : List ℕ → ReplayStatus → Outcome
 
 -- the outcome at the end of a record, whose start is to be known and whose session short
 abbrev pub ended : Header → Option Lines → Outcome
@@ -62,31 +65,35 @@ outcome_from t lines (Ok x) = ended_by x.0 x.1.fault (with_entries t lines x.1.l
 unfoldable pub replay_outcome : TailoringParts → List ℕ → Outcome
 replay_outcome t octets = outcome_from t (Some no_lines) (read_record octets)
 
--- the octets of a record's entries
-abbrev pub entries_octets : List (ℕ × Entry) → List ℕ
-entries_octets entries = flat_map (λ x. entry_octets x.1) entries
-
--- what is trimmed of entries up to a fault, if there is one: a cut is left out, and every other fault stands
-abbrev pub trimmed_by : Option RecordFault → List ℕ → Outcome
-trimmed_by None octets = written octets
-trimmed_by (Some (Cut offset)) octets = written octets
-trimmed_by (Some fault) octets = stopped (status_of_fault fault)
-
--- what is trimmed of what is still to come, after these octets
-abbrev pub trimmed_from : List ℕ → Result (Header × Entries) RecordFault → Outcome
-trimmed_from before (Err fault) = stopped (status_of_fault fault)
-trimmed_from before (Ok x) = trimmed_by x.1.fault (before ++ entries_octets x.1.list)
-
--- the octets of the header that was read
-abbrev pub header_read : Result (Header × Entries) RecordFault → List ℕ
-header_read (Err fault) = []
-header_read (Ok x) = header_octets x.0
+-- the octets that were given, or the status by which a run ends without them
+abbrev pub given_outcome : Result (List ℕ) RecordFault → Outcome
+given_outcome (Ok octets) = written octets
+given_outcome (Err fault) = stopped (status_of_fault fault)
 
 -- the outcome of `trim` on octets: the header and every whole entry up to the end or a cut, or the first other fault
-unfoldable pub trim_outcome : List ℕ → Outcome
-trim_outcome octets = trimmed_from (header_read (read_record octets)) (read_record octets)
+abbrev pub trim_outcome : List ℕ → Outcome
+trim_outcome octets = given_outcome (trimmed_octets octets)
+
+-- how a run ends at the end of a record, or at its first fault
+abbrev pub status_at : Option RecordFault → ReplayStatus
+status_at None = Done
+status_at (Some fault) = status_of_fault fault
+
+-- the outcome of `show` on octets: a line for each entry before the first fault
+abbrev pub show_outcome : TailoringParts → List ℕ → Outcome
+show_outcome t octets = listed (show_text t octets) (status_at (record_fault octets))
+
+-- a record that was made, or the number of the line that is refused
+abbrev pub made_outcome : Result (List ℕ) ℕ → Outcome
+made_outcome (Ok octets) = written octets
+made_outcome (Err line) = stopped (Text line)
+
+-- the outcome of `encode` on a file of lines: a record with known start, with a Sent entry for each line, or the first line that is refused
+abbrev pub encode_outcome : TailoringParts → List ℕ → Outcome
+encode_outcome t file = made_outcome (encoded t file)
 
 -- what is written of an outcome, if all goes well
 abbrev pub outcome_text : Outcome → List ℕ
 outcome_text (written text) = text
 outcome_text (stopped status) = []
+outcome_text (listed text status) = text

@@ -14,9 +14,9 @@ use Rattle.session_record.specs.Records.{header_of, read_record}
 use Rattle.session_record.specs.declared.entry.Entry.{Entry}
 use Rattle.session_record.specs.declared.entry.Entry.TheVariants.{Sent, Got, Line}
 use Rattle.hk_replay.specs.Blocks.{Block, block_lines}
-use Rattle.hk_replay.specs.Replay.{IsWritten, IsPrefixWritten}
+use Rattle.record_commands.specs.Written.{IsWritten, IsPrefixWritten}
 use Rattle.hk_replay.specs.declared.status.ReplayStatus.{ReplayStatus}
-use Rattle.hk_replay.specs.declared.status.ReplayStatus.TheVariants.{Done, Usage, Tailoring, Record, ReadFault, WriteFault, NoMemory, NotBuilt}
+use Rattle.hk_replay.specs.declared.status.ReplayStatus.TheVariants.{Done, Usage, Tailoring, Record, ReadFault, WriteFault, NoMemory, Text, NotBuilt}
 
 -- what the ground saw by an entry of a record; a line of the journal is nothing that it saw
 abbrev pub seen : Entry → Option worlds.Entry
@@ -57,4 +57,5 @@ IsTrueRun w ReadFault before after = after ≡ before
 IsTrueRun w Usage before after = ⊥
 IsTrueRun w (Tailoring fault) before after = ⊥
 IsTrueRun w (Record problem) before after = ⊥
+IsTrueRun w (Text line) before after = ⊥
 IsTrueRun w NotBuilt before after = ⊥

@@ -7,9 +7,11 @@ pub data TailoringName : Type 0 where
   standard : TailoringName
   in_file : List ℕ → TailoringName
 
--- what a run is asked to do: to replay the record of this name under a tailoring, to check a tailoring, or to trim the record of this name
+-- what a run is asked to do: to replay or to show the record of this name under a tailoring, to make a record of the lines of this name, to check a tailoring, or to trim the record of this name
 pub data Command : Type 0 where
   replay : TailoringName → List ℕ → Command
+  show : TailoringName → List ℕ → Command
+  encode : TailoringName → List ℕ → Command
   check : TailoringName → Command
   trim : List ℕ → Command
 
@@ -21,8 +23,16 @@ is_word word given = bytes_eq given word
 abbrev pub tailoring_named : List ℕ → TailoringName
 tailoring_named word = if is_word (codes "builtin") word then standard else in_file word
 
--- the command that words are, if they are one of the forms `replay TAILORING RECORD`, `check TAILORING` and `trim RECORD`
+-- the command of a form with a tailoring and another input, if it is one of `replay`, `show` and `encode`
+abbrev pub command_with : List ℕ → TailoringName → List ℕ → Option Command
+command_with form tailoring name =
+    if is_word (codes "replay") form then Some (replay tailoring name)
+    else if is_word (codes "show") form then Some (show tailoring name)
+    else if is_word (codes "encode") form then Some (encode tailoring name)
+    else None
+
+-- the command that words are, if they are one of the forms `replay TAILORING RECORD`, `show TAILORING RECORD`, `encode TAILORING LINES`, `check TAILORING` and `trim RECORD`
 abbrev pub command_of : List (List ℕ) → Option Command
-command_of (form ∷ tailoring ∷ name ∷ []) = if is_word (codes "replay") form then Some (replay (tailoring_named tailoring) name) else None
+command_of (form ∷ tailoring ∷ name ∷ []) = command_with form (tailoring_named tailoring) name
 command_of (form ∷ name ∷ []) = if is_word (codes "check") form then Some (check (tailoring_named name)) else if is_word (codes "trim") form then Some (trim name) else None
 command_of words = None

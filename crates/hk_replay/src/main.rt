@@ -1,7 +1,6 @@
 //! The ground's decoder of housekeeping reports.
 #![tactic(auto)]
 
-mod draft;
 mod lines;
 mod outside;
 mod record;
@@ -12,8 +11,9 @@ mod tailorings;
 mod tests;
 #[cfg(test)]
 mod tests_below;
+#[cfg(test)]
+mod tests_entries;
 mod transcript;
-mod trim;
 mod words;
 
 use crate::outside::{FileShelf, OutSink};

@@ -8,11 +8,9 @@ ghost use Rattle.hk_replay.specs.Replay.{ReadsTo, EndsTo, IsOfReading};
 use crate::status::ReplayStatus;
 use crate::transcript::{Transcript, with_entry};
 use hk_base::{Shelf, Tailoring};
+use record_commands::PIECE_OCTETS;
 use session_record::RecordReader;
 use std::alloc::Global;
-
-/// The most octets that are asked of the shelf at a time.
-pub const PIECE_OCTETS: u32 = 65_536;
 
 /// The lines for the record that the shelf has selected, or how the run ends without them.
 pub fn replayed<F: Shelf>(

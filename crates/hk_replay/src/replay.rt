@@ -1,5 +1,5 @@
 //! One run of the program.
-ghost use Rattle.std.specs.Prelude.{◌≡◌, ◌≤◌, ◌↔◌, ℕ, List, None, Some, Result, length, map, IfSome, IsSome, IsErrOf};
+ghost use Rattle.std.specs.Prelude.{◌≡◌, ◌≤◌, ◌↔◌, ℕ, List, None, Some, Ok, Result, length, map, IfSome, IsSome, IsErrOf};
 ghost use Rattle.std.specs.String.{string_bytes};
 ghost use Rattle.hk_base.specs.Outside.{HasRisen};
 ghost use Rattle.hk_base.specs.TailoringParts.{TailoringParts};
@@ -10,17 +10,18 @@ ghost use Rattle.hk_world.specs.Worlds.{World, IsWorld};
 ghost use Rattle.hk_world.specs.Undisturbed.{IsUndisturbed};
 ghost use Rattle.hk_replay.specs.Truth.{IsRecordOf, IsTrueRun};
 ghost use Rattle.hk_replay.specs.Words.{command_of};
-ghost use Rattle.hk_replay.specs.Asked.{asked, named};
-ghost use Rattle.hk_replay.specs.Transcripts.{Outcome, outcome_text, replay_outcome, trim_outcome};
-ghost use Rattle.hk_replay.specs.Replay.{HasOutput, WritesNothing, ReadsTo, IsEarly, IsOfReading};
-ghost use Rattle.hk_replay.specs.Inputs.{octets_of, StandsFor, replay_told, check_outcome, Tells, TellsOf, Replays};
+ghost use Rattle.hk_replay.specs.Asked.{asked_job, named};
+ghost use Rattle.hk_replay.specs.Transcripts.{Outcome, outcome_text, replay_outcome, show_outcome, encode_outcome, trim_outcome};
+ghost use Rattle.hk_replay.specs.Replay.{HasOutput, WritesNothing, WritesNothingEarly, WritesNothingElse, ReadsTo, IsOfReading};
+ghost use Rattle.hk_replay.specs.Inputs.{octets_of, StandsFor, told_under, check_outcome, Tells, TellsOf, Replays, ShowsRecord, HasShown, HasShownBefore, HasShownFrom};
+ghost use Rattle.record_commands.specs.Showing.{show_text};
 
 use crate::record::replayed;
 use crate::status::ReplayStatus;
 use crate::tailorings::{check_line, tailoring_of};
-use crate::trim::trimmed;
-use crate::words::{Command, TailoringName, command_in};
+use crate::words::{Command, Job, TailoringName, command_in};
 use hk_base::{Shelf, Sink, Tailoring};
+use record_commands::{encode, show, trimmed};
 use session_record::write_all;
 use std::alloc::Global;
 
@@ -37,8 +38,10 @@ pub fn replay_main<F: Shelf, K: Sink>(
     ensures write_fault { result ≡ ReplayStatus.WriteFault → HasRisen (K.faults sink.old) (K.faults sink.new) }
 
     // What was written. With most statuses it is nothing, whatever the shelf tells.
-    ensures nothing { WritesNothing result (K.taken sink.old) (K.taken sink.new) }
+    ensures nothing { WritesNothing (command_of (map string_bytes words.now)) result (K.taken sink.old) (K.taken sink.new) }
     ensures output { (outcome : Outcome) → TellsOf (F.files shelf.old) (command_of (map string_bytes words.now)) outcome → HasOutput result outcome (K.taken sink.old) (K.taken sink.new) }
+    // Where the shelf fails while a record is shown, each line of an entry that it gave in full was written before.
+    ensures given { (t : TailoringParts) → (octets : List ℕ) → ShowsRecord (F.files shelf.old) (command_of (map string_bytes words.now)) t octets → result ≡ ReplayStatus.ReadFault → HasShown (F.files shelf.old) (command_of (map string_bytes words.now)) t octets (F.rest shelf.old) (F.rest shelf.new) (K.taken sink.old) (K.taken sink.new) }
 
     // A sound shelf that has the record isn't made to fail, nor is a sink with room for the text.
     ensures sound { F.is_sound shelf.old → (outcome : Outcome) → TellsOf (F.files shelf.old) (command_of (map string_bytes words.now)) outcome → F.faults shelf.new ≡ F.faults shelf.old }
@@ -64,14 +67,38 @@ fn run<F: Shelf, K: Sink>(
     ensures write_fault { result ≡ ReplayStatus.WriteFault → HasRisen (K.faults sink.old) (K.faults sink.new) }
 
     // What was written. With most statuses it is nothing, whatever the shelf tells.
-    ensures nothing { WritesNothing result (K.taken sink.old) (K.taken sink.new) }
+    ensures nothing { WritesNothing (command_of (map string_bytes words.now)) result (K.taken sink.old) (K.taken sink.new) }
     ensures output { (outcome : Outcome) → TellsOf (F.files shelf.old) (command_of (map string_bytes words.now)) outcome → HasOutput result outcome (K.taken sink.old) (K.taken sink.new) }
+    // Where the shelf fails while a record is shown, each line of an entry that it gave in full was written before.
+    ensures given { (t : TailoringParts) → (octets : List ℕ) → ShowsRecord (F.files shelf.old) (command_of (map string_bytes words.now)) t octets → result ≡ ReplayStatus.ReadFault → HasShown (F.files shelf.old) (command_of (map string_bytes words.now)) t octets (F.rest shelf.old) (F.rest shelf.new) (K.taken sink.old) (K.taken sink.new) }
 
     // A sound shelf that has the record isn't made to fail, nor is a sink with room for the text.
     ensures sound { F.is_sound shelf.old → (outcome : Outcome) → TellsOf (F.files shelf.old) (command_of (map string_bytes words.now)) outcome → F.faults shelf.new ≡ F.faults shelf.old }
     ensures room { (outcome : Outcome) → TellsOf (F.files shelf.old) (command_of (map string_bytes words.now)) outcome → IfSome (K.room sink.old) (λ room. length (outcome_text outcome) ≤ room → K.faults sink.new ≡ K.faults sink.old) }
 {
-    let text = match text(alloc, words, shelf) {
+    match command_in(words) {
+        None => ReplayStatus::Usage,
+        Some(Command::Make(job)) => made(alloc, job, shelf, sink),
+        Some(Command::Show(tailoring, name)) => shown(alloc, tailoring, name, shelf, sink),
+    }
+}
+
+/// Makes what a job says, and writes it when it is whole.
+fn made<F: Shelf, K: Sink>(
+    alloc: Global,
+    job: Job<'_>,
+    shelf: &mut F,
+    sink: &mut K,
+) -> ReplayStatus
+    ensures used { result ≡ ReplayStatus.Usage → ⊥ }
+    ensures read_fault { result ≡ ReplayStatus.ReadFault → HasRisen (F.faults shelf.old) (F.faults shelf.new) }
+    ensures write_fault { result ≡ ReplayStatus.WriteFault → HasRisen (K.faults sink.old) (K.faults sink.new) }
+    ensures nothing { WritesNothingEarly result (K.taken sink.old) (K.taken sink.new) }
+    ensures output { (outcome : Outcome) → Tells (F.files shelf.old) (asked_job job.entry) outcome → HasOutput result outcome (K.taken sink.old) (K.taken sink.new) }
+    ensures sound { F.is_sound shelf.old → (outcome : Outcome) → Tells (F.files shelf.old) (asked_job job.entry) outcome → F.faults shelf.new ≡ F.faults shelf.old }
+    ensures room { (outcome : Outcome) → Tells (F.files shelf.old) (asked_job job.entry) outcome → IfSome (K.room sink.old) (λ room. length (outcome_text outcome) ≤ room → K.faults sink.new ≡ K.faults sink.old) }
+{
+    let text = match job_text(alloc, job, shelf) {
         Ok(text) => text,
         Err(status) => return status,
     };
@@ -81,36 +108,72 @@ fn run<F: Shelf, K: Sink>(
     }
 }
 
-/// What is to be written, or how the run ends without it.
-fn text<F: Shelf>(alloc: Global, words: &[String], shelf: &mut F) -> Result<Vec<u8>, ReplayStatus>
-    ensures usage { IsErrOf result ReplayStatus.Usage ↔ (command_of (map string_bytes words.now) ≡ None) }
-    ensures read_fault { IsErrOf result ReplayStatus.ReadFault → HasRisen (F.faults shelf.old) (F.faults shelf.new) }
-    ensures outcome { (outcome : Outcome) → TellsOf (F.files shelf.old) (command_of (map string_bytes words.now)) outcome → ReadsTo (λ text. text.items) result outcome }
-    ensures sound { F.is_sound shelf.old → (outcome : Outcome) → TellsOf (F.files shelf.old) (command_of (map string_bytes words.now)) outcome → F.faults shelf.new ≡ F.faults shelf.old }
-    ensures early { IsEarly result }
-{
-    let Some(command) = command_in(words) else {
-        return Err(ReplayStatus::Usage);
-    };
-    command_text(alloc, command, shelf)
-}
-
-/// What a command writes, or how the run ends without it.
-fn command_text<F: Shelf>(
+/// What a job makes, or how the run ends without it.
+fn job_text<F: Shelf>(
     alloc: Global,
-    command: Command<'_>,
+    job: Job<'_>,
     shelf: &mut F,
 ) -> Result<Vec<u8>, ReplayStatus>
     ensures read_fault { IsErrOf result ReplayStatus.ReadFault → HasRisen (F.faults shelf.old) (F.faults shelf.new) }
-    ensures outcome { (outcome : Outcome) → Tells (F.files shelf.old) (asked command.entry) outcome → ReadsTo (λ text. text.items) result outcome }
-    ensures sound { F.is_sound shelf.old → (outcome : Outcome) → Tells (F.files shelf.old) (asked command.entry) outcome → F.faults shelf.new ≡ F.faults shelf.old }
+    ensures outcome { (outcome : Outcome) → Tells (F.files shelf.old) (asked_job job.entry) outcome → ReadsTo (λ text. text.items) result outcome }
+    ensures sound { F.is_sound shelf.old → (outcome : Outcome) → Tells (F.files shelf.old) (asked_job job.entry) outcome → F.faults shelf.new ≡ F.faults shelf.old }
     ensures early { IsOfReading result }
 {
-    match command {
-        Command::Replay(tailoring, name) => replayed_text(alloc, tailoring, name, shelf),
-        Command::Check(tailoring) => checked_text(alloc, tailoring, shelf),
-        Command::Trim(name) => trimmed_text(alloc, name, shelf),
+    match job {
+        Job::Replay(tailoring, name) => replayed_text(alloc, tailoring, name, shelf),
+        Job::Encode(tailoring, name) => encoded_text(alloc, tailoring, name, shelf),
+        Job::Check(tailoring) => checked_text(alloc, tailoring, shelf),
+        Job::Trim(name) => trimmed_text(alloc, name, shelf),
     }
+}
+
+/// Writes a line for each entry of the record of this name, before the next one is read.
+fn shown<F: Shelf, K: Sink>(
+    alloc: Global,
+    tailoring: TailoringName<'_>,
+    name: &str,
+    shelf: &mut F,
+    sink: &mut K,
+) -> ReplayStatus
+    ensures used { result ≡ ReplayStatus.Usage → ⊥ }
+    ensures read_fault { result ≡ ReplayStatus.ReadFault → HasRisen (F.faults shelf.old) (F.faults shelf.new) }
+    ensures write_fault { result ≡ ReplayStatus.WriteFault → HasRisen (K.faults sink.old) (K.faults sink.new) }
+    ensures nothing { WritesNothingElse result (K.taken sink.old) (K.taken sink.new) }
+    ensures output { (meant : Result TailoringParts TailoringFault) → StandsFor (F.files shelf.old) (named tailoring.entry) meant → IfSome (told_under show_outcome (octets_of (F.files shelf.old) name.now) meant) (λ outcome. HasOutput result outcome (K.taken sink.old) (K.taken sink.new)) }
+    ensures given { (t : TailoringParts) → (octets : List ℕ) → StandsFor (F.files shelf.old) (named tailoring.entry) (Ok t) → octets_of (F.files shelf.old) name.now ≡ Some octets → result ≡ ReplayStatus.ReadFault → HasShownBefore (F.files shelf.old) (named tailoring.entry) t octets (F.rest shelf.old) (F.rest shelf.new) (K.taken sink.old) (K.taken sink.new) }
+    ensures sound { F.is_sound shelf.old → (meant : Result TailoringParts TailoringFault) → StandsFor (F.files shelf.old) (named tailoring.entry) meant → IsSome (told_under show_outcome (octets_of (F.files shelf.old) name.now) meant) → F.faults shelf.new ≡ F.faults shelf.old }
+    ensures room { (meant : Result TailoringParts TailoringFault) → StandsFor (F.files shelf.old) (named tailoring.entry) meant → IfSome (told_under show_outcome (octets_of (F.files shelf.old) name.now) meant) (λ outcome. IfSome (K.room sink.old) (λ room. length (outcome_text outcome) ≤ room → K.faults sink.new ≡ K.faults sink.old)) }
+{
+    match tailoring_of(alloc, tailoring, shelf) {
+        Ok(tailoring) => record_shown(alloc, &tailoring, name, shelf, sink),
+        Err(status) => status,
+    }
+}
+
+/// Writes a line for each entry of the record of this name.
+fn record_shown<F: Shelf, K: Sink>(
+    alloc: Global,
+    tailoring: &Tailoring,
+    name: &str,
+    shelf: &mut F,
+    sink: &mut K,
+) -> ReplayStatus
+    ensures used { result ≡ ReplayStatus.Usage → ⊥ }
+    ensures read_fault { result ≡ ReplayStatus.ReadFault → HasRisen (F.faults shelf.old) (F.faults shelf.new) }
+    ensures write_fault { result ≡ ReplayStatus.WriteFault → HasRisen (K.faults sink.old) (K.faults sink.new) }
+    ensures nothing { WritesNothingElse result (K.taken sink.old) (K.taken sink.new) }
+    ensures output { IfSome (octets_of (F.files shelf.old) name.now) (λ octets. HasOutput result (show_outcome tailoring.now octets) (K.taken sink.old) (K.taken sink.new)) }
+    ensures given { IfSome (octets_of (F.files shelf.old) name.now) (λ octets. result ≡ ReplayStatus.ReadFault → HasShownFrom tailoring.now octets (F.rest shelf.old) (F.rest shelf.new) (K.taken sink.old) (K.taken sink.new)) }
+    ensures sound { F.is_sound shelf.old → IsSome (octets_of (F.files shelf.old) name.now) → F.faults shelf.new ≡ F.faults shelf.old }
+    ensures room { IfSome (octets_of (F.files shelf.old) name.now) (λ octets. IfSome (K.room sink.old) (λ room. length (show_text tailoring.now octets) ≤ room → K.faults sink.new ≡ K.faults sink.old)) }
+{
+    if shelf.select(name).is_err() {
+        return ReplayStatus::ReadFault;
+    }
+    if let Err(fault) = show(alloc, tailoring, shelf, sink) {
+        return fault.into();
+    }
+    ReplayStatus::Done
 }
 
 /// The lines for the record of this name under a tailoring, or how the run ends without them.
@@ -121,8 +184,8 @@ fn replayed_text<F: Shelf>(
     shelf: &mut F,
 ) -> Result<Vec<u8>, ReplayStatus>
     ensures read_fault { IsErrOf result ReplayStatus.ReadFault → HasRisen (F.faults shelf.old) (F.faults shelf.new) }
-    ensures outcome { (meant : Result TailoringParts TailoringFault) → StandsFor (F.files shelf.old) (named tailoring.entry) meant → IfSome (replay_told (octets_of (F.files shelf.old) name.now) meant) (ReadsTo (λ text. text.items) result) }
-    ensures sound { F.is_sound shelf.old → (meant : Result TailoringParts TailoringFault) → StandsFor (F.files shelf.old) (named tailoring.entry) meant → IsSome (replay_told (octets_of (F.files shelf.old) name.now) meant) → F.faults shelf.new ≡ F.faults shelf.old }
+    ensures outcome { (meant : Result TailoringParts TailoringFault) → StandsFor (F.files shelf.old) (named tailoring.entry) meant → IfSome (told_under replay_outcome (octets_of (F.files shelf.old) name.now) meant) (ReadsTo (λ text. text.items) result) }
+    ensures sound { F.is_sound shelf.old → (meant : Result TailoringParts TailoringFault) → StandsFor (F.files shelf.old) (named tailoring.entry) meant → IsSome (told_under replay_outcome (octets_of (F.files shelf.old) name.now) meant) → F.faults shelf.new ≡ F.faults shelf.old }
     ensures early { IsOfReading result }
 {
     let tailoring = tailoring_of(alloc, tailoring, shelf)?;
@@ -150,6 +213,41 @@ fn record_text<F: Shelf>(
     }
 }
 
+/// The record of the lines of this name under a tailoring, or how the run ends without it.
+fn encoded_text<F: Shelf>(
+    alloc: Global,
+    tailoring: TailoringName<'_>,
+    name: &str,
+    shelf: &mut F,
+) -> Result<Vec<u8>, ReplayStatus>
+    ensures read_fault { IsErrOf result ReplayStatus.ReadFault → HasRisen (F.faults shelf.old) (F.faults shelf.new) }
+    ensures outcome { (meant : Result TailoringParts TailoringFault) → StandsFor (F.files shelf.old) (named tailoring.entry) meant → IfSome (told_under encode_outcome (octets_of (F.files shelf.old) name.now) meant) (ReadsTo (λ text. text.items) result) }
+    ensures sound { F.is_sound shelf.old → (meant : Result TailoringParts TailoringFault) → StandsFor (F.files shelf.old) (named tailoring.entry) meant → IsSome (told_under encode_outcome (octets_of (F.files shelf.old) name.now) meant) → F.faults shelf.new ≡ F.faults shelf.old }
+    ensures early { IsOfReading result }
+{
+    let tailoring = tailoring_of(alloc, tailoring, shelf)?;
+    lines_text(alloc, &tailoring, name, shelf)
+}
+
+/// The record of the lines of this name, or how the run ends without it.
+fn lines_text<F: Shelf>(
+    alloc: Global,
+    tailoring: &Tailoring,
+    name: &str,
+    shelf: &mut F,
+) -> Result<Vec<u8>, ReplayStatus>
+    ensures read_fault { IsErrOf result ReplayStatus.ReadFault → HasRisen (F.faults shelf.old) (F.faults shelf.new) }
+    ensures outcome { IfSome (octets_of (F.files shelf.old) name.now) (λ octets. ReadsTo (λ text. text.items) result (encode_outcome tailoring.now octets)) }
+    ensures sound { F.is_sound shelf.old → IsSome (octets_of (F.files shelf.old) name.now) → F.faults shelf.new ≡ F.faults shelf.old }
+    ensures early { IsOfReading result }
+{
+    if shelf.select(name).is_err() {
+        return Err(ReplayStatus::ReadFault);
+    }
+    let record = encode(alloc, tailoring, shelf)?;
+    Ok(record.into_vec())
+}
+
 /// The line for a tailoring without fault, or how the run ends without it.
 fn checked_text<F: Shelf>(
     alloc: Global,
@@ -175,5 +273,5 @@ fn trimmed_text<F: Shelf>(alloc: Global, name: &str, shelf: &mut F) -> Result<Ve
     if shelf.select(name).is_err() {
         return Err(ReplayStatus::ReadFault);
     }
-    trimmed(alloc, shelf)
+    Ok(trimmed(alloc, shelf)?)
 }

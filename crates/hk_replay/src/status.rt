@@ -1,13 +1,14 @@
 //! How a run ended.
 ghost use Rattle.std.specs.Prelude.{◌≡◌, ◌++◌, codes, IfOk};
-ghost use Rattle.hk_replay.specs.Faults.{fault_text, format_text, status_number, status_of_fault, status_of_tailoring};
+ghost use Rattle.hk_replay.specs.Faults.{fault_text, format_text, status_number, status_of_encoding, status_of_fault, status_of_input, status_of_showing, status_of_tailoring};
 ghost use Rattle.hk_tailoring.specs.Texts.{fault_text as fault_of_tailoring};
 ghost use Rattle.hk_replay.specs.declared.status.ReplayStatus.TheVariants as status;
 ghost use Rattle.std.specs.String.{string_bytes};
 
 use hk_base::{Items, Memory, Octets};
 use hk_tailoring::TailoringFault;
-use session_record::{RecordFault, WriteFault};
+use record_commands::{EncodeFault, InputFault, ShowFault};
+use session_record::RecordFault;
 use std::alloc::{AllocError, Global};
 use std::fmt::Write;
 
@@ -35,6 +36,8 @@ pub enum ReplayStatus {
     WriteFault,
     /// Memory ran out.
     NoMemory,
+    /// The line with this number, from 1, isn't the words of the request that stands there. With 0 the lines are too long.
+    Text(u32),
     /// The record has no fault, but isn't of a form that is built so far.
     NotBuilt,
 }
@@ -47,15 +50,6 @@ impl From<Memory> for ReplayStatus {
     }
 }
 
-/// Octets are written to memory first, and that fails for want of memory alone.
-impl From<WriteFault> for ReplayStatus {
-    ghost from_gives = { λ _ e. e ≡ status.NoMemory };
-
-    fn from(_: WriteFault) -> ReplayStatus {
-        ReplayStatus::NoMemory
-    }
-}
-
 impl From<TailoringFault> for ReplayStatus {
     ghost from_gives = { λ fault e. e ≡ status_of_tailoring fault };
 
@@ -63,6 +57,17 @@ impl From<TailoringFault> for ReplayStatus {
         match fault {
             TailoringFault::Memory => ReplayStatus::NoMemory,
             fault => ReplayStatus::Tailoring(fault),
+        }
+    }
+}
+
+impl From<InputFault> for ReplayStatus {
+    ghost from_gives = { λ fault e. e ≡ status_of_input fault };
+
+    fn from(fault: InputFault) -> ReplayStatus {
+        match fault {
+            InputFault::ReadFault => ReplayStatus::ReadFault,
+            InputFault::Memory => ReplayStatus::NoMemory,
         }
     }
 }
@@ -87,6 +92,29 @@ impl From<RecordFault> for ReplayStatus {
     }
 }
 
+impl From<ShowFault> for ReplayStatus {
+    ghost from_gives = { λ fault e. e ≡ status_of_showing fault };
+
+    fn from(fault: ShowFault) -> ReplayStatus {
+        match fault {
+            ShowFault::Record(fault) => fault.into(),
+            ShowFault::WriteFault => ReplayStatus::WriteFault,
+        }
+    }
+}
+
+impl From<EncodeFault> for ReplayStatus {
+    ghost from_gives = { λ fault e. e ≡ status_of_encoding fault };
+
+    fn from(fault: EncodeFault) -> ReplayStatus {
+        match fault {
+            EncodeFault::Line(line) => ReplayStatus::Text(line),
+            EncodeFault::ReadFault => ReplayStatus::ReadFault,
+            EncodeFault::Memory => ReplayStatus::NoMemory,
+        }
+    }
+}
+
 impl ReplayStatus {
     /// The exit status of the program.
     pub fn number(&self) -> u8
@@ -100,6 +128,7 @@ impl ReplayStatus {
             ReplayStatus::ReadFault => 5,
             ReplayStatus::WriteFault => 6,
             ReplayStatus::NoMemory => 7,
+            ReplayStatus::Text(_) => 8,
             ReplayStatus::NotBuilt => 20,
         }
     }
@@ -116,6 +145,7 @@ impl ReplayStatus {
             ReplayStatus::ReadFault => String::from_str(alloc, "read fault")?,
             ReplayStatus::WriteFault => String::from_str(alloc, "write fault")?,
             ReplayStatus::NoMemory => String::from_str(alloc, "no memory")?,
+            ReplayStatus::Text(line) => format!(in alloc; "line {line}")?,
             ReplayStatus::NotBuilt => String::from_str(alloc, "not built")?,
         };
         Ok(Items::from_vec(text.into_bytes()))

@@ -1,25 +1,23 @@
 //! The tailoring that a run goes by.
-ghost use Rattle.std.specs.Prelude.{◌≡◌, ◌<◌, ◌+◌, [], length, Result, IfSome, IsSome, IfOk, IfErr, OnOk, IsErrOf};
+ghost use Rattle.std.specs.Prelude.{◌≡◌, length, Result, IfSome, IsSome, IfOk, IfErr, OnOk, IsErrOf};
 ghost use Rattle.hk_base.specs.TailoringParts.{TailoringParts};
 ghost use Rattle.hk_base.specs.Outside.{HasRisen};
 ghost use Rattle.hk_tailoring.specs.declared.fault.TailoringFault.{TailoringFault};
 ghost use Rattle.hk_replay.specs.Asked.{named};
-ghost use Rattle.session_record.specs.Reading.{ahead, KeepsAhead, IsAtEnd};
-ghost use Rattle.hk_replay.specs.Transcripts.{written};
-ghost use Rattle.hk_replay.specs.Replay.{EndsWith, IsOfReading};
-ghost use Rattle.hk_replay.specs.Inputs.{octets_of, IsMeaning, StandsFor, IsMeant, IsWhole, check_text};
+ghost use Rattle.hk_replay.specs.Replay.{IsOfReading};
+ghost use Rattle.hk_replay.specs.Inputs.{octets_of, IsBeforeRecord, IsMeaning, StandsFor, IsMeant, IsWhole, check_text};
+ghost use Rattle.hk_replay.specs.Words.{in_file};
+ghost use Rattle.record_commands.specs.Input.{IsEndOf};
 
 use crate::status::ReplayStatus;
 use crate::words::TailoringName;
-use hk_base::{Items, Octets, Shelf, Tailoring, builtin};
+use hk_base::{Octets, Shelf, Tailoring, builtin};
 use hk_tailoring::TailoringFault;
+use record_commands::input_octets;
 use std::alloc::{AllocError, Global};
 
 /// The most octets that a tailoring file has.
 const MOST_FILE_OCTETS: usize = 1_048_576;
-
-/// The most octets that are asked of the shelf at a time.
-const PIECE_OCTETS: usize = 65_536;
 
 /// The tailoring that a name stands for, or how the run ends without it.
 pub fn tailoring_of<F: Shelf>(
@@ -28,6 +26,7 @@ pub fn tailoring_of<F: Shelf>(
     shelf: &mut F,
 ) -> Result<Tailoring, ReplayStatus>
     ensures meant { (meant : Result TailoringParts TailoringFault) → StandsFor (F.files shelf.old) (named name.entry) meant → IsMeant result meant }
+    ensures before { IsBeforeRecord (F.files shelf.old) (named name.entry) (F.rest shelf.old) (F.rest shelf.new) }
     ensures failed { IsErrOf result ReplayStatus.ReadFault → HasRisen (F.faults shelf.old) (F.faults shelf.new) }
     ensures quiet { OnOk result (F.faults shelf.new ≡ F.faults shelf.old) }
     ensures sound { F.is_sound shelf.old → (meant : Result TailoringParts TailoringFault) → StandsFor (F.files shelf.old) (named name.entry) meant → F.faults shelf.new ≡ F.faults shelf.old }
@@ -47,6 +46,7 @@ fn tailoring_in_file<F: Shelf>(
     name: &str,
     shelf: &mut F,
 ) -> Result<Tailoring, ReplayStatus>
+    ensures before { IsBeforeRecord (F.files shelf.old) (in_file name.now) (F.rest shelf.old) (F.rest shelf.new) }
     ensures meant { IfSome (octets_of (F.files shelf.old) name.now) (λ octets. (meant : Result TailoringParts TailoringFault) → IsMeaning octets meant → IsMeant result meant) }
     ensures failed { IsErrOf result ReplayStatus.ReadFault → HasRisen (F.faults shelf.old) (F.faults shelf.new) }
     ensures quiet { OnOk result (F.faults shelf.new ≡ F.faults shelf.old) }
@@ -63,6 +63,7 @@ fn tailoring_in_file<F: Shelf>(
 
 /// The tailoring in what the shelf has selected.
 fn tailoring_read<F: Shelf>(alloc: Global, shelf: &mut F) -> Result<Tailoring, ReplayStatus>
+    ensures left { IsEndOf (F.rest shelf.old) (F.rest shelf.new) }
     ensures meant { IfSome (F.rest shelf.old) (λ octets. (meant : Result TailoringParts TailoringFault) → IsMeaning octets meant → IsMeant result meant) }
     ensures failed { IsErrOf result ReplayStatus.ReadFault → HasRisen (F.faults shelf.old) (F.faults shelf.new) }
     ensures quiet { OnOk result (F.faults shelf.new ≡ F.faults shelf.old) }
@@ -83,6 +84,7 @@ fn tailoring_read<F: Shelf>(alloc: Global, shelf: &mut F) -> Result<Tailoring, R
 /// All octets of what the shelf has selected, and none where they are too many for a tailoring.
 fn file_octets<F: Shelf>(alloc: Global, shelf: &mut F) -> Result<Option<Octets>, ReplayStatus>
     ensures whole { IfSome (F.rest shelf.old) (λ octets. IsWhole octets result) }
+    ensures left { IsEndOf (F.rest shelf.old) (F.rest shelf.new) }
     ensures failed { IsErrOf result ReplayStatus.ReadFault → HasRisen (F.faults shelf.old) (F.faults shelf.new) }
     ensures quiet { OnOk result (F.faults shelf.new ≡ F.faults shelf.old) }
     ensures sound { F.is_sound shelf.old → IsSome (F.rest shelf.old) → F.faults shelf.new ≡ F.faults shelf.old }
@@ -90,64 +92,7 @@ fn file_octets<F: Shelf>(alloc: Global, shelf: &mut F) -> Result<Option<Octets>,
     ensures stays_sound { F.is_sound shelf.old → F.is_sound shelf.new }
     ensures early { IsOfReading result }
 {
-    let mut piece = buffer(alloc, PIECE_OCTETS)?;
-    octets_by_pieces(alloc, &mut piece, shelf)
-}
-
-/// A buffer of so many octets.
-fn buffer(alloc: Global, octets: usize) -> Result<Vec<u8>, AllocError>
-    ensures { IfOk result (λ buffer. length buffer.items ≡ octets) }
-{
-    vec![in alloc; 0u8; octets]
-}
-
-/// The same by pieces of at most the buffer's octets.
-fn octets_by_pieces<F: Shelf>(
-    alloc: Global,
-    piece: &mut [u8],
-    shelf: &mut F,
-) -> Result<Option<Octets>, ReplayStatus>
-    requires { 0 < length piece.old }
-    ensures whole { IfSome (F.rest shelf.old) (λ octets. IsWhole octets result) }
-    ensures failed { IsErrOf result ReplayStatus.ReadFault → HasRisen (F.faults shelf.old) (F.faults shelf.new) }
-    ensures quiet { OnOk result (F.faults shelf.new ≡ F.faults shelf.old) }
-    ensures sound { F.is_sound shelf.old → IsSome (F.rest shelf.old) → F.faults shelf.new ≡ F.faults shelf.old }
-    ensures files { F.files shelf.new ≡ F.files shelf.old }
-    ensures stays_sound { F.is_sound shelf.old → F.is_sound shelf.new }
-    ensures early { IsOfReading result }
-{
-    let mut octets = Vec::new(alloc);
-    while octets.len() <= MOST_FILE_OCTETS {
-        if append_piece(&mut octets, piece, shelf)? == 0 {
-            return Ok(Some(Items::from_vec(octets)));
-        }
-    }
-    Ok(None)
-}
-
-/// Appends the next piece to the octets, and answers how many octets it has: none at the end.
-fn append_piece<F: Shelf>(
-    octets: &mut Vec<u8>,
-    piece: &mut [u8],
-    shelf: &mut F,
-) -> Result<usize, ReplayStatus>
-    requires { 0 < length piece.old }
-    ensures ahead { OnOk result (KeepsAhead (ahead octets.old.items (F.rest shelf.old)) (ahead octets.new.items (F.rest shelf.new))) }
-    ensures more { IfOk result (λ count. length octets.new.items ≡ length octets.old.items + count) }
-    ensures end { IfOk result (λ count. IsAtEnd count (F.rest shelf.old) (F.rest shelf.new)) }
-    ensures free { IfErr result (λ status. EndsWith status (written [])) }
-    ensures failed { IsErrOf result ReplayStatus.ReadFault → HasRisen (F.faults shelf.old) (F.faults shelf.new) }
-    ensures quiet { OnOk result (F.faults shelf.new ≡ F.faults shelf.old) }
-    ensures sound { F.is_sound shelf.old → IsSome (F.rest shelf.old) → F.faults shelf.new ≡ F.faults shelf.old }
-    ensures files { F.files shelf.new ≡ F.files shelf.old }
-    ensures stays_sound { F.is_sound shelf.old → F.is_sound shelf.new }
-    ensures early { IsOfReading result }
-{
-    let Ok(count) = shelf.read(piece) else {
-        return Err(ReplayStatus::ReadFault);
-    };
-    octets.extend_from_slice(&piece[..count])?;
-    Ok(count)
+    Ok(input_octets(alloc, MOST_FILE_OCTETS, shelf)?)
 }
 
 /// The line that says that a tailoring is without fault.

@@ -10,10 +10,10 @@ use std::process::Abort;
 use std::test::Fail;
 
 /// The header of a record with known start.
-const KNOWN: &[u8] = b"HKREC1K\n";
+pub const KNOWN: &[u8] = b"HKREC1K\n";
 
 /// A report of housekeeping structure 1, with the tag 16385.
-const REPORT: &[u8] = &[
+pub const REPORT: &[u8] = &[
     b'G', 0x00, 0x00, 0x00, 0x16, 0x08, 0x64, 0xc0, 0x00, 0x00, 0x0f, 0x20, 0x03, 0x19, 0x00, 0x00,
     0x00, 0x01, 0x00, 0x00, 0x00, 0x00, 0x40, 0x01, 0x01, 0x00, 0x2a,
 ];
@@ -33,18 +33,18 @@ const ARRAY: &[u8] = &[
 ];
 
 /// A request that sets the interval of housekeeping structure 2.
-const REQUEST: &[u8] = &[
+pub const REQUEST: &[u8] = &[
     b'S', 0x00, 0x00, 0x00, 0x0f, 0x18, 0x64, 0xc0, 0x00, 0x00, 0x08, 0x2f, 0x03, 0x1f, 0x00, 0x01,
     0x01, 0x02, 0x00, 0x04,
 ];
 
 /// A line of the journal.
-const LINE: &[u8] = b"J\x00\x00\x00\x04noon";
+pub const LINE: &[u8] = b"J\x00\x00\x00\x04noon";
 
 /// The words of the command on the record of `shelf_of`.
 const REPLAY: [&str; 3] = ["replay", "builtin", "record"];
 
-fn words_of(alloc: Global, words: &[&str]) -> Result<Vec<String>, AllocError> {
+pub fn words_of(alloc: Global, words: &[&str]) -> Result<Vec<String>, AllocError> {
     let mut all = Vec::new(alloc);
     for word in words {
         all.push(String::from_str(alloc, word)?)?;
@@ -53,7 +53,7 @@ fn words_of(alloc: Global, words: &[&str]) -> Result<Vec<String>, AllocError> {
 }
 
 /// A file of these parts.
-fn file_of(alloc: Global, name: &str, parts: &[&[u8]]) -> Result<(Octets, Octets), Memory> {
+pub fn file_of(alloc: Global, name: &str, parts: &[&[u8]]) -> Result<(Octets, Octets), Memory> {
     let mut octets = Vec::new(alloc);
     for part in parts {
         octets.extend_from_slice(part)?;
@@ -63,7 +63,7 @@ fn file_of(alloc: Global, name: &str, parts: &[&[u8]]) -> Result<(Octets, Octets
 }
 
 /// A shelf with the record of these parts. Its reads give at most so many octets, and its listed calls fail.
-fn shelf_of(alloc: Global, parts: &[&[u8]], failing: &[u32], most: u32) -> Result<MemShelf, Memory>
+pub fn shelf_of(alloc: Global, parts: &[&[u8]], failing: &[u32], most: u32) -> Result<MemShelf, Memory>
     requires { 1 ≤ most }
 {
     let file = file_of(alloc, "record", parts)?;
@@ -72,7 +72,7 @@ fn shelf_of(alloc: Global, parts: &[&[u8]], failing: &[u32], most: u32) -> Resul
 }
 
 /// A sink with room for so many octets, ten at a time. Its listed calls fail.
-fn sink_of(alloc: Global, failing: &[u32], room: u32) -> Result<MemSink, Memory> {
+pub fn sink_of(alloc: Global, failing: &[u32], room: u32) -> Result<MemSink, Memory> {
     MemSink::new(alloc, Items::from_slice(alloc, failing)?, 10, room)
 }
 
@@ -88,7 +88,7 @@ fn replayed(
 }
 
 /// Both are the same: their numbers and their texts are.
-fn assert_status(
+pub fn assert_status(
     rt: &impl Abort,
     alloc: Global,
     found: &ReplayStatus,
@@ -136,7 +136,7 @@ fn records_with_lines(rt: HostRuntime) -> Result<(), Fail> {
     Ok(())
 }
 
-fn format(fault: RecordFault) -> ReplayStatus {
+pub fn format(fault: RecordFault) -> ReplayStatus {
     ReplayStatus::Record(RecordProblem::Format(fault))
 }
 
@@ -195,6 +195,8 @@ fn statuses_and_their_texts(rt: HostRuntime) -> Result<(), Fail> {
         (ReplayStatus::ReadFault, 5, "read fault"),
         (ReplayStatus::WriteFault, 6, "write fault"),
         (ReplayStatus::NoMemory, 7, "no memory"),
+        (ReplayStatus::Text(0), 8, "line 0"),
+        (ReplayStatus::Text(16_385), 8, "line 16385"),
         (ReplayStatus::NotBuilt, 20, "not built"),
     ];
     for (status, number, text) in table {
@@ -208,12 +210,16 @@ fn statuses_and_their_texts(rt: HostRuntime) -> Result<(), Fail> {
 #[test]
 fn words_that_name_no_record(rt: HostRuntime) -> Result<(), Fail> {
     let alloc = rt.alloc();
-    let table: [(&[&str], ReplayStatus); 10] = [
+    let table: [(&[&str], ReplayStatus); 14] = [
         (&[], ReplayStatus::Usage),
         (&["replay", "builtin"], ReplayStatus::Usage),
         (&["check"], ReplayStatus::Usage),
         (&["check", "builtin", "record"], ReplayStatus::Usage),
         (&["trim"], ReplayStatus::Usage),
+        (&["show", "builtin"], ReplayStatus::Usage),
+        (&["encode", "builtin"], ReplayStatus::Usage),
+        (&["show", "builtin", "other"], ReplayStatus::ReadFault),
+        (&["encode", "other", "record"], ReplayStatus::ReadFault),
         (&["replay", "other", "record"], ReplayStatus::ReadFault),
         (&["check", "other"], ReplayStatus::ReadFault),
         (&["trim", "other"], ReplayStatus::ReadFault),
@@ -333,7 +339,7 @@ const MINE_REPORT: &[u8] = &[
 ];
 
 /// How a run with these words ends on a shelf with the file `mine`, and `record` and `other` of these parts.
-fn run_with_files(
+pub fn run_with_files(
     alloc: Global,
     words: &[&str],
     record: &[&[u8]],

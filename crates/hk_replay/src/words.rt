@@ -2,7 +2,7 @@
 ghost use Rattle.std.specs.Prelude.{◌≡◌, map};
 ghost use Rattle.std.specs.Option.{option_map};
 ghost use Rattle.std.specs.String.{string_bytes};
-ghost use Rattle.hk_replay.specs.Words.{command_of, tailoring_named as meaning_of};
+ghost use Rattle.hk_replay.specs.Words.{command_of, command_with, tailoring_named as meaning_of};
 ghost use Rattle.hk_replay.specs.Asked.{asked, named};
 
 /// What a word stands for where a tailoring is named.
@@ -17,29 +17,54 @@ pub enum TailoringName<'a> {
 /// What a run is asked to do.
 #[derive(Clone, Copy)]
 pub enum Command<'a> {
-    /// To replay the record of this name under a tailoring.
+    /// To make something of its inputs, and to write it when it is whole.
+    Make(Job<'a>),
+    /// To write a line for each entry of the record of this name as it is read.
+    Show(TailoringName<'a>, &'a str),
+}
+
+/// What is made of the inputs.
+#[derive(Clone, Copy)]
+pub enum Job<'a> {
+    /// The lines for the record of this name under a tailoring.
     Replay(TailoringName<'a>, &'a str),
-    /// To check a tailoring.
+    /// The record of the requests whose words are the lines of this name.
+    Encode(TailoringName<'a>, &'a str),
+    /// The line that says that a tailoring is without fault.
     Check(TailoringName<'a>),
-    /// To trim the record of this name.
+    /// The whole entries of the record of this name.
     Trim(&'a str),
 }
 
-/// The command that the words are, if they are one of the forms `replay TAILORING RECORD`, `check TAILORING` and
-/// `trim RECORD`.
+/// The command that the words are, if they are one of the forms `replay TAILORING RECORD`, `show TAILORING RECORD`,
+/// `encode TAILORING LINES`, `check TAILORING` and `trim RECORD`.
 pub fn command_in(words: &[String]) -> Option<Command<'_>>
     ensures { option_map asked result ≡ command_of (map string_bytes words.now) }
 {
     match words {
-        [form, tailoring, name] if form.as_str() == "replay" => Some(Command::Replay(
-            tailoring_named(tailoring.as_str()),
-            name.as_str(),
-        )),
-        [form, tailoring] if form.as_str() == "check" => {
-            Some(Command::Check(tailoring_named(tailoring.as_str())))
+        [form, tailoring, name] => {
+            command_on(form.as_str(), tailoring_named(tailoring.as_str()), name.as_str())
         }
-        [form, name] if form.as_str() == "trim" => Some(Command::Trim(name.as_str())),
+        [form, tailoring] if form.as_str() == "check" => {
+            Some(Command::Make(Job::Check(tailoring_named(tailoring.as_str()))))
+        }
+        [form, name] if form.as_str() == "trim" => Some(Command::Make(Job::Trim(name.as_str()))),
         _ => None,
+    }
+}
+
+/// The command of a form with a tailoring and another input.
+fn command_on<'a>(form: &str, tailoring: TailoringName<'a>, name: &'a str) -> Option<Command<'a>>
+    ensures { option_map asked result ≡ command_with form.now (named tailoring.entry) name.now }
+{
+    if form == "replay" {
+        Some(Command::Make(Job::Replay(tailoring, name)))
+    } else if form == "show" {
+        Some(Command::Show(tailoring, name))
+    } else if form == "encode" {
+        Some(Command::Make(Job::Encode(tailoring, name)))
+    } else {
+        None
     }
 }
 

@@ -76,7 +76,7 @@ header-kept s1 s2 taken = by_header s1.header refl taken
         (ap (λ (s : Reading). s.offset) taken.1, ap (λ (s : Reading). s.room) taken.1, ap (λ (s : Reading). s.fault) taken.1, rw (taken.1, is) refl)
 
 -- no header was found
-header-missing : (s1 s2 : Reading) (fault : RecordFault) → HeaderTaken (Err fault) s1 s2
+pub header-missing : (s1 s2 : Reading) (fault : RecordFault) → HeaderTaken (Err fault) s1 s2
     → (fault ≡ BadMagic) × (s2 ≡ s1) × (s1.header ≡ None) × (header_in s1.held ≡ None)
 header-missing s1 s2 fault taken = by_header s1.header refl taken
   where
@@ -260,7 +260,7 @@ taken-moves s0 s3 s4 next (Err fault) offset room taken =
     ((ap (λ (s : Reading). s.offset) taken.2 ∙ offset, ap (λ (s : Reading). s.room) taken.2 ∙ room), ap (λ (s : Reading). s.fault) taken.2)
 
 -- the header behind gathering, taking the header off and gathering again
-kept : (s0 s1 s2 s3 : Reading) → HeldAlone s0 s1 → HeaderTaken (Ok tt) s1 s2 → HeldAlone s2 s3
+pub kept : (s0 s1 s2 s3 : Reading) → HeldAlone s0 s1 → HeaderTaken (Ok tt) s1 s2 → HeldAlone s2 s3
     → (s3.offset ≡ s0.offset) × (s3.room ≡ s0.room) × (s3.fault ≡ s0.fault) × IsSome s3.header
 kept s0 s1 s2 s3 one taken two =
     let header = header-kept s1 s2 taken in (
@@ -333,7 +333,7 @@ pub lasting-apart : (fault : RecordFault) → lasting fault ≡ Some fault → f
 lasting-apart fault lasts is = cc (rw is at lasts)
 
 -- keeping no fault changes nothing
-kept_none : (s1 s2 : Reading) (now : List ℕ) → s2 ≡ record s1 { fault = None } → s1.fault ≡ None → to_come s2 now ≡ to_come s1 now
+pub kept_none : (s1 s2 : Reading) (now : List ℕ) → s2 ≡ record s1 { fault = None } → s1.fault ≡ None → to_come s2 now ≡ to_come s1 now
 kept_none s1 s2 now after fine = ap (λ (s : Reading). to_come s now) after ∙ ap (λ f. read_on s1.header f s1.room s1.offset (s1.held ++ now)) (sym fine)
 
 -- nor does keeping the fault that comes next

@@ -49,6 +49,22 @@ IsFirst (Err fault) before after = (after ≡ before) × MatchResult before (λ 
 abbrev pub Answers : Result (Option (ℕ × Entry)) RecordFault → Reading → Option (List ℕ) → Reading → Option (List ℕ) → Type 0
 Answers result before rest after left = IfSome rest (λ was. IfSome left (λ now. IsFirst result (to_come before was) (to_come after now)) × IsSome left)
 
+-- What an answer that isn't of the end says of what was to come: an entry was its first, and without an answer of the octets it is as it was.
+abbrev pub IsFirstOnward : Result (Option (ℕ × Entry)) RecordFault → Result (Header × Entries) RecordFault → Result (Header × Entries) RecordFault → Type 0
+IsFirstOnward (Ok (Some x)) before after = IsFirst (Ok (Some x)) before after
+IsFirstOnward (Err ReadFault) before after = after ≡ before
+IsFirstOnward (Err Memory) before after = after ≡ before
+IsFirstOnward result before after = ⊤
+
+-- where the shelf told what it had left: the octets that it gave in the call, and what the answer says of them whatever follows them
+abbrev pub GoesOn : Result (Option (ℕ × Entry)) RecordFault → Reading → Option (List ℕ) → Reading → Option (List ℕ) → Type 0
+GoesOn result before rest after left =
+    IfSome rest (λ was. IfSome left (λ now. (given : List ℕ) × (was ≡ given ++ now) × ((more : List ℕ) → IsFirstOnward result (to_come before (given ++ more)) (to_come after more))) × IsSome left)
+
+-- where the shelf told what it had left: the octets that it gave came to the end of those that are held
+abbrev pub Gains : List ℕ → Option (List ℕ) → List ℕ → Option (List ℕ) → Type 0
+Gains held rest grown left = IfSome rest (λ was. IfSome left (λ now. (given : List ℕ) × (was ≡ given ++ now) × (grown ≡ held ++ given)) × IsSome left)
+
 -- an answer that more octets don't change
 abbrev pub is_final : Result (Option Entry) RecordFault → Bool
 is_final (Ok None) = false

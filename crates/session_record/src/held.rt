@@ -2,7 +2,7 @@
 ghost use Rattle.std.specs.Prelude.{◌≡◌, ◌++◌, ◌+◌, ◌<◌, ◌≤◌, [], drop, take, length, IfOk, IfErr, IsSome, IsErrOf};
 ghost use Rattle.hk_base.specs.Outside.{Reads};
 ghost use Rattle.session_record.specs.Faults.{IsReadError};
-ghost use Rattle.session_record.specs.Reading.{ahead, KeepsAhead, ReadCounts, IsAtEnd};
+ghost use Rattle.session_record.specs.Reading.{ahead, Gains, KeepsAhead, ReadCounts, IsAtEnd};
 
 use crate::entry::RecordFault;
 use hk_base::{Memory, Shelf};
@@ -79,6 +79,7 @@ impl Held {
         ensures count { ReadCounts result (F.faults shelf.old) (F.faults shelf.new) }
         ensures more { IfOk result (λ count. length self.new ≡ length self.old + count) }
         ensures ahead { KeepsAhead (ahead self.old (F.rest shelf.old)) (ahead self.new (F.rest shelf.new)) }
+        ensures gains { Gains self.old (F.rest shelf.old) self.new (F.rest shelf.new) }
         ensures end { IfOk result (λ count. IsAtEnd count (F.rest shelf.old) (F.rest shelf.new)) }
         ensures err { IfErr result (λ fault. IsReadError fault × (self.new ≡ self.old)) }
         ensures files { F.files shelf.new ≡ F.files shelf.old }

@@ -1,7 +1,7 @@
 //! Reading a record piece by piece.
 ghost use Rattle.std.specs.Prelude.{◌≡◌, ◌<◌, false, None, Some, IfOk, IfErr, OnOk, IfSome, IsSome, IsTrue, IsErrOf};
 ghost use Rattle.std.specs.Option.{option_map};
-ghost use Rattle.session_record.specs.Reading.{reading_at_start, Answers, Moves, HasHeader, ReadCounts, is_settled, lasting_fault, ahead, KeepsAhead};
+ghost use Rattle.session_record.specs.Reading.{reading_at_start, Answers, GoesOn, Gains, Moves, HasHeader, ReadCounts, is_settled, lasting_fault, ahead, KeepsAhead};
 ghost use Rattle.session_record.specs.Faults.{IsReadError};
 ghost use Rattle.session_record.specs.Records.{next_entry};
 ghost use Rattle.session_record.specs.Steps.{is_ready, HeldAlone, HeaderTaken, EntryTaken, IsEnough};
@@ -77,8 +77,10 @@ impl RecordReader {
     /// A fault of the octets is answered from then on. After `ReadFault` or `Memory` the reader keeps what it has read,
     /// and answers what would have come when it is asked again.
     pub fn next<F: Shelf>(&mut self, shelf: &mut F) -> Result<Option<(u64, Entry)>, RecordFault>
-        // The entries, their offsets, the end and the faults are those of the octets, in whatever pieces they come.
+        // The entries, their offsets, the end and the faults are those of the octets, in whatever pieces they come. What the
+        // answer says of the octets that the shelf gave stands whatever it would have given after them.
         ensures answer { Answers result self.old (F.rest shelf.old) self.new (F.rest shelf.new) }
+        ensures goes_on { GoesOn result self.old (F.rest shelf.old) self.new (F.rest shelf.new) }
         ensures header { HasHeader result self.new.header }
         ensures same_header { IfSome self.old.header (λ header. self.new.header ≡ Some header) }
         ensures moves { Moves result self.old self.new }
@@ -105,6 +107,7 @@ impl RecordReader {
     fn read_next<F: Shelf>(&mut self, shelf: &mut F) -> Result<Option<(u64, Entry)>, RecordFault>
         requires { self.old.fault ≡ None }
         ensures answer { Answers result self.old (F.rest shelf.old) self.new (F.rest shelf.new) }
+        ensures goes_on { GoesOn result self.old (F.rest shelf.old) self.new (F.rest shelf.new) }
         ensures header { HasHeader result self.new.header }
         ensures same_header { IfSome self.old.header (λ header. self.new.header ≡ Some header) }
         ensures moves { Moves result self.old self.new }
@@ -126,6 +129,7 @@ impl RecordReader {
     fn gather<F: Shelf>(&mut self, shelf: &mut F) -> Result<(), RecordFault>
         ensures held { HeldAlone self.old self.new }
         ensures ahead { KeepsAhead (ahead self.old.held (F.rest shelf.old)) (ahead self.new.held (F.rest shelf.new)) }
+        ensures gains { Gains self.old.held (F.rest shelf.old) self.new.held (F.rest shelf.new) }
         ensures enough { OnOk result (IsEnough self.new (F.rest shelf.old) (F.rest shelf.new)) }
         ensures err { IfErr result (λ fault. IsReadError fault × (is_ready self.new ≡ false)) }
         ensures ready { IsTrue (is_ready self.old) → (self.new ≡ self.old) × (shelf.new ≡ shelf.old) }

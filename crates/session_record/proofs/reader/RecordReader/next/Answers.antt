@@ -1,6 +1,7 @@
 use Rattle.std.proofs.Common.{◌∙◌, Err, ap, sym, subst}
 use Rattle.session_record.specs.Reading.{Reading, HasHeader}
 use Rattle.session_record.proofs.ReadingLemmas.{again-answers, faulted-answers, lasting-counts, lasting-apart}
+use Rattle.session_record.proofs.OnwardLemmas.{again-onward, faulted-onward}
 use Rattle.session_record.proofs.reader.RecordReader.next.Goals as goal
 
 pub returns-in-Some-clause-answer : goal.returns-in-Some-clause-answer
@@ -26,3 +27,14 @@ returns-clause-answer g c =
     ∙ ap (λ f. record c.read_next-answer.new.self { fault = f }) c.lasting_fault-self-inside.ensures in
     faulted-answers c.args.self.now c.read_next-answer.new.self _ (g.F.Shelf.rest c.args.shelf.now) (g.F.Shelf.rest c.read_next-answer.new.shelf) result after
     c.read_next-answer.ensures.fault c.read_next-answer.ensures.header c.read_next-answer.ensures.answer
+
+pub returns-in-Some-clause-goes_on : goal.returns-in-Some-clause-goes_on
+returns-in-Some-clause-goes_on g c = again-onward c.args.self.now (g.F.Shelf.rest c.args.shelf.now) c.in-Some.fault
+
+pub returns-clause-goes_on : goal.returns-clause-goes_on
+returns-clause-goes_on g c =
+    let result = c.read_next-answer.result in
+    let after = ap (λ (s : Reading). record s { fault = c.lasting_fault-self-inside.result }) c.self-2.view_is
+    ∙ ap (λ f. record c.read_next-answer.new.self { fault = f }) c.lasting_fault-self-inside.ensures in
+    faulted-onward c.args.self.now c.read_next-answer.new.self _ (g.F.Shelf.rest c.args.shelf.now) (g.F.Shelf.rest c.read_next-answer.new.shelf) result after
+    c.read_next-answer.ensures.fault c.read_next-answer.ensures.goes_on

@@ -1,12 +1,6 @@
 use Rattle.std.proofs.Common.{arith, ◌∙◌}
-use Rattle.std.proofs.lemmas.Result.{err_from_is_err_and}
-use Rattle.hk_replay.proofs.FileLemmas.{still_told, whole_at_end, too_long, ended_early}
-use Rattle.hk_replay.proofs.tailorings.octets_by_pieces.Goals as goal
-
-pub returns-in_err-append_piece-clause-whole : goal.returns-in_err-append_piece-clause-whole
-returns-in_err-append_piece-clause-whole g c =
-    let p = err_from_is_err_and c.from_residual.result c.from_residual.ensures.1
-    in rw (p.1, p.2) (ended_early (g.F.Shelf.rest c.args.shelf.now) c.in_err-append_piece.field-0.0 c.in_err-append_piece.ensures.free)
+use Rattle.record_commands.proofs.InputLemmas.{still_told, whole_at_end, too_long, end_then}
+use Rattle.record_commands.proofs.input.octets_by_pieces.Goals as goal
 
 pub returns-in_err-append_piece-clause-sound : goal.returns-in_err-append_piece-clause-sound
 returns-in_err-append_piece-clause-sound g c = λ sound some.
@@ -19,7 +13,7 @@ returns-in_err-append_piece-clause-stays_sound g c = λ sound. c.append_piece.en
 
 pub returns-then-branch-eq0-clause-whole : goal.returns-then-branch-eq0-clause-whole
 returns-then-branch-eq0-clause-whole g c =
-    whole_at_end _ _ (g.F.Shelf.rest c.args.shelf.now) (g.F.Shelf.rest c.loop-octets.shelf) (g.F.Shelf.rest c.append_piece.new.shelf)
+    whole_at_end c.args.most _ _ (g.F.Shelf.rest c.args.shelf.now) (g.F.Shelf.rest c.loop-octets.shelf) (g.F.Shelf.rest c.append_piece.new.shelf)
     c.loop-octets.octets.items c.append_piece.new.octets.items c.loop-octets.invariant.ahead c.in_ok-append_piece.ensures.ahead c.in_ok-append_piece.ensures.end
     (omega (arith, c.if-branch-eq0.true)) c.in_ok-append_piece.ensures.more (omega (arith, c.loop-octets-test.true, c.len.ensures)) c.from_vec.ensures
 
@@ -28,5 +22,9 @@ returns-then-branch-eq0-clause-stays_sound g c = λ sound. c.append_piece.ensure
 
 pub returns-clause-whole : goal.returns-clause-whole
 returns-clause-whole g c =
-    too_long (g.F.Shelf.rest c.args.shelf.now) (g.F.Shelf.rest c.loop-octets.shelf) c.loop-octets.octets.items c.loop-octets.invariant.ahead
+    too_long c.args.most (g.F.Shelf.rest c.args.shelf.now) (g.F.Shelf.rest c.loop-octets.shelf) c.loop-octets.octets.items c.loop-octets.invariant.ahead
     (omega (arith, c.loop-octets-test.false, c.len.ensures))
+
+pub returns-in_err-append_piece-clause-left : goal.returns-in_err-append_piece-clause-left
+returns-in_err-append_piece-clause-left g c =
+    end_then (g.F.Shelf.rest c.args.shelf.now) (g.F.Shelf.rest c.loop-octets.shelf) (g.F.Shelf.rest c.append_piece.new.shelf) c.loop-octets.invariant.left c.append_piece.ensures.left

@@ -1,7 +1,7 @@
 use Rattle.std.proofs.Common.{refl}
 use Rattle.std.proofs.lemmas.Result.{err_from_is_err_and}
-use Rattle.hk_replay.proofs.TrimLemmas.{fault_first, kept_first}
-use Rattle.hk_replay.proofs.trim.trim_into.Goals as goal
+use Rattle.record_commands.proofs.TrimLemmas.{fault_first, kept_first}
+use Rattle.record_commands.proofs.trim.trim_into.Goals as goal
 
 pub returns-in_err-first-clause-kept : goal.returns-in_err-first-clause-kept
 returns-in_err-first-clause-kept g c =

@@ -1,8 +1,8 @@
 use Rattle.std.proofs.Common.{◌≡◌, ◌≤◌, ◌^◌, length}
 use Rattle.std.specs.Prelude.{IfSome}
 use Rattle.session_record.specs.Records.{held_octets}
-use Rattle.hk_replay.proofs.TrimLemmas.{KeepsOn, turns}
-use Rattle.hk_replay.proofs.trim.keep_whole.Given as goal
+use Rattle.record_commands.proofs.TrimLemmas.{KeepsOn, turns}
+use Rattle.record_commands.proofs.trim.keep_whole.Given as goal
 
 abbrev pub invariant-loop-next : goal.invariant-loop-next
 invariant-loop-next g l = record {

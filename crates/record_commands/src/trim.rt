@@ -1,31 +1,29 @@
 //! A record without what a recorder that was cut off left behind its last whole entry.
-ghost use Rattle.std.specs.Prelude.{◌≡◌, ◌+◌, ◌≤◌, ◌^◌, [], ◌++◌, length, IsErrOf, IfSome, IsSome, IfOk, IfErr, OnOk};
+ghost use Rattle.std.specs.Prelude.{◌≡◌, ◌+◌, ◌≤◌, ◌^◌, [], ◌++◌, length, Result, ℕ, List, IsErrOf, IfSome, IsSome, IfOk, IfErr, OnOk};
 ghost use Rattle.hk_base.specs.Outside.{HasRisen};
 ghost use Rattle.session_record.specs.Records.{held_octets, entry_octets, header_octets};
 ghost use Rattle.session_record.specs.Reading.{reading_at_start, to_come};
-ghost use Rattle.hk_replay.specs.Transcripts.{Outcome, trim_outcome};
-ghost use Rattle.hk_replay.specs.Replay.{ReadsTo, IsOfReading};
-ghost use Rattle.hk_replay.specs.Trimming.{TakesWhole, IsTrimmed, IsKept};
+ghost use Rattle.record_commands.specs.Trimming.{trimmed_octets, ReadsAs, TakesWhole, IsTrimmed, IsKept};
 
 use crate::draft::Draft;
-use crate::record::PIECE_OCTETS;
-use crate::status::ReplayStatus;
 use hk_base::Shelf;
 use session_record::{Entry, RecordFault, RecordReader, RecordWriter};
 use std::alloc::Global;
 
-/// The header and the whole entries of the record that the shelf has selected, or how the run ends without them.
-pub fn trimmed<F: Shelf>(alloc: Global, shelf: &mut F) -> Result<Vec<u8>, ReplayStatus>
-    ensures outcome { IfSome (F.rest shelf.old) (λ octets. ReadsTo (λ out. out.items) result (trim_outcome octets)) }
-    ensures failed { IsErrOf result ReplayStatus.ReadFault → HasRisen (F.faults shelf.old) (F.faults shelf.new) }
+/// The most octets that are asked of the shelf at a time.
+pub const PIECE_OCTETS: u32 = 65_536;
+
+/// The header and the whole entries of the record that the shelf has selected.
+pub fn trimmed<F: Shelf>(alloc: Global, shelf: &mut F) -> Result<Vec<u8>, RecordFault>
+    ensures outcome { IfSome (F.rest shelf.old) (λ octets. ReadsAs (λ out. out.items) result (trimmed_octets octets)) }
+    ensures failed { IsErrOf result RecordFault.ReadFault → HasRisen (F.faults shelf.old) (F.faults shelf.new) }
     ensures sound { F.is_sound shelf.old → IsSome (F.rest shelf.old) → F.faults shelf.new ≡ F.faults shelf.old }
-    ensures early { IsOfReading result }
 {
     let mut reader = RecordReader::new(alloc, PIECE_OCTETS)?;
     let mut draft = Draft::new(alloc);
     match trim_into(&mut draft, &mut reader, shelf) {
         Ok(()) => Ok(draft.into_octets()),
-        Err(status) => Err(status),
+        Err(fault) => Err(fault),
     }
 }
 
@@ -34,13 +32,12 @@ fn trim_into<F: Shelf>(
     draft: &mut Draft,
     reader: &mut RecordReader,
     shelf: &mut F,
-) -> Result<(), ReplayStatus>
+) -> Result<(), RecordFault>
     requires start { reader.old ≡ reading_at_start }
     requires empty { draft.old.octets.items ≡ [] }
-    ensures kept { IfSome (F.rest shelf.old) (λ octets. IsKept (trim_outcome octets) result draft.new.octets.items) }
-    ensures failed { IsErrOf result ReplayStatus.ReadFault → HasRisen (F.faults shelf.old) (F.faults shelf.new) }
+    ensures kept { IfSome (F.rest shelf.old) (λ octets. IsKept (trimmed_octets octets) result draft.new.octets.items) }
+    ensures failed { IsErrOf result RecordFault.ReadFault → HasRisen (F.faults shelf.old) (F.faults shelf.new) }
     ensures sound { F.is_sound shelf.old → IsSome (F.rest shelf.old) → F.faults shelf.new ≡ F.faults shelf.old }
-    ensures early { IsOfReading result }
 {
     let first = next_whole(reader, shelf)?;
     begin(draft, reader)?;
@@ -48,15 +45,17 @@ fn trim_into<F: Shelf>(
 }
 
 /// Puts the header that was read to the draft.
-fn begin(draft: &mut Draft, reader: &RecordReader) -> Result<(), ReplayStatus>
+fn begin(draft: &mut Draft, reader: &RecordReader) -> Result<(), RecordFault>
     requires { draft.old.octets.items ≡ [] }
     ensures ok { OnOk result (IfSome reader.now.header (λ header. draft.new.octets.items ≡ header_octets header)) }
-    ensures err { IfErr result (λ status. status ≡ ReplayStatus.NoMemory) }
+    ensures err { IfErr result (λ fault. fault ≡ RecordFault.Memory) }
 {
     let known = reader.known_start().unwrap_or(false);
     let long = reader.long_session().unwrap_or(false);
-    RecordWriter::begin(draft, known, long)?;
-    Ok(())
+    match RecordWriter::begin(draft, known, long) {
+        Ok(()) => Ok(()),
+        Err(_) => Err(RecordFault::Memory),
+    }
 }
 
 /// Keeps this entry, if there is one, and the whole entries after it.
@@ -65,12 +64,11 @@ fn keep_whole<F: Shelf>(
     first: Option<Entry>,
     reader: &mut RecordReader,
     shelf: &mut F,
-) -> Result<(), ReplayStatus>
+) -> Result<(), RecordFault>
     requires { IfSome first (λ entry. length (held_octets entry) ≤ 2 ^ 31) }
-    ensures kept { IfSome (F.rest shelf.old) (λ left. (outcome : Outcome) → IsTrimmed outcome draft.old.octets.items first (to_come reader.old left) → IsKept outcome result draft.new.octets.items) }
-    ensures failed { IsErrOf result ReplayStatus.ReadFault → HasRisen (F.faults shelf.old) (F.faults shelf.new) }
+    ensures kept { IfSome (F.rest shelf.old) (λ left. (given : Result (List ℕ) RecordFault) → IsTrimmed given draft.old.octets.items first (to_come reader.old left) → IsKept given result draft.new.octets.items) }
+    ensures failed { IsErrOf result RecordFault.ReadFault → HasRisen (F.faults shelf.old) (F.faults shelf.new) }
     ensures sound { F.is_sound shelf.old → IsSome (F.rest shelf.old) → F.faults shelf.new ≡ F.faults shelf.old }
-    ensures early { IsOfReading result }
 {
     let mut next = first;
     while let Some(entry) = next {
@@ -81,33 +79,34 @@ fn keep_whole<F: Shelf>(
 }
 
 /// Puts an entry to what is kept.
-fn put(draft: &mut Draft, entry: Entry) -> Result<(), ReplayStatus>
+fn put(draft: &mut Draft, entry: Entry) -> Result<(), RecordFault>
     requires { length (held_octets entry) ≤ 2 ^ 31 }
     ensures ok { OnOk result (draft.new.octets.items ≡ draft.old.octets.items ++ entry_octets entry) }
-    ensures err { IfErr result (λ status. status ≡ ReplayStatus.NoMemory) }
+    ensures err { IfErr result (λ fault. fault ≡ RecordFault.Memory) }
 {
-    RecordWriter::put(draft, &entry)?;
-    Ok(())
+    match RecordWriter::put(draft, &entry) {
+        Ok(()) => Ok(()),
+        Err(_) => Err(RecordFault::Memory),
+    }
 }
 
 /// The next whole entry, and none at the end or at a cut.
 fn next_whole<F: Shelf>(
     reader: &mut RecordReader,
     shelf: &mut F,
-) -> Result<Option<Entry>, ReplayStatus>
+) -> Result<Option<Entry>, RecordFault>
     ensures takes { TakesWhole result reader.old (F.rest shelf.old) reader.new (F.rest shelf.new) }
     ensures header { OnOk result (IsSome reader.new.header) }
     ensures same_header { IfSome reader.old.header (λ header. reader.new.header ≡ Some header) }
     ensures bounded { IfOk result (λ next. IfSome next (λ entry. (length (held_octets entry) ≤ 2 ^ 31) × (reader.old.room ≡ reader.new.room + 1))) }
-    ensures failed { IsErrOf result ReplayStatus.ReadFault → HasRisen (F.faults shelf.old) (F.faults shelf.new) }
+    ensures failed { IsErrOf result RecordFault.ReadFault → HasRisen (F.faults shelf.old) (F.faults shelf.new) }
     ensures quiet { OnOk result (F.faults shelf.new ≡ F.faults shelf.old) }
     ensures sound { F.is_sound shelf.old → IsSome (F.rest shelf.old) → F.faults shelf.new ≡ F.faults shelf.old }
     ensures stays_sound { F.is_sound shelf.old → F.is_sound shelf.new }
-    ensures early { IsOfReading result }
 {
     match reader.next(shelf) {
         Ok(Some((_offset, entry))) => Ok(Some(entry)),
         Ok(None) | Err(RecordFault::Cut(_)) => Ok(None),
-        Err(fault) => Err(fault.into()),
+        Err(fault) => Err(fault),
     }
 }

@@ -1,0 +1,8 @@
+pub mod Trimming
+pub mod Written
+pub mod Lines
+pub mod Showing
+pub mod Input
+pub mod Packets
+pub mod Encoding
+pub mod Outcomes

@@ -1,0 +1,105 @@
+//! A line for each entry of a record.
+ghost use Rattle.std.specs.Prelude.{◌≡◌, ◌≤◌, ◌+◌, length, Result, Option, Some, None, IsErrOf, IfSome, IsSome, IfOk, OnOk};
+ghost use Rattle.hk_base.specs.Outside.{HasRisen};
+ghost use Rattle.session_record.specs.Reading.{Reading, reading_at_start, to_come};
+ghost use Rattle.record_commands.specs.Showing.{show_text, Shows, TakesLine};
+
+use crate::lines::entry_line;
+use crate::trim::PIECE_OCTETS;
+use hk_base::{Memory, Octets, Shelf, Sink, Tailoring};
+use session_record::{RecordFault, RecordReader, write_all};
+use std::alloc::Global;
+
+/// Why not every entry of a record was shown.
+#[derive(Clone, Copy, Debug, PartialEq, Eq, Drop)]
+pub enum ShowFault {
+    /// A fault of the record, or of reading it.
+    Record(RecordFault),
+    /// The sink failed.
+    WriteFault,
+}
+
+impl From<RecordFault> for ShowFault {
+    ghost use Rattle.std.specs.Prelude.{◌≡◌};
+    ghost use Rattle.record_commands.specs.declared.showing.ShowFault.TheVariants.{Record};
+
+    ghost from_gives = { λ fault given. given ≡ Record fault };
+
+    fn from(fault: RecordFault) -> ShowFault {
+        ShowFault::Record(fault)
+    }
+}
+
+impl From<Memory> for ShowFault {
+    ghost use Rattle.std.specs.Prelude.{◌≡◌};
+    ghost use Rattle.session_record.specs.declared.entry.RecordFault.TheVariants.{Memory};
+    ghost use Rattle.record_commands.specs.declared.showing.ShowFault.TheVariants.{Record};
+
+    ghost from_gives = { λ _ given. given ≡ Record Memory };
+
+    fn from(_: Memory) -> ShowFault {
+        ShowFault::Record(RecordFault::Memory)
+    }
+}
+
+/// Writes a line for each entry of the record that the shelf has selected, before the next entry is read. It takes every
+/// record: known start or not, short or long, with packets of any kind.
+pub fn show<F: Shelf, K: Sink>(
+    alloc: Global,
+    tailoring: &Tailoring,
+    shelf: &mut F,
+    sink: &mut K,
+) -> Result<(), ShowFault>
+    ensures shown { IfSome (F.rest shelf.old) (λ octets. Shows result tailoring.now octets (F.rest shelf.new) (K.taken sink.old) (K.taken sink.new)) }
+    ensures read_fault { IsErrOf result (ShowFault.Record RecordFault.ReadFault) → HasRisen (F.faults shelf.old) (F.faults shelf.new) }
+    ensures write_fault { IsErrOf result ShowFault.WriteFault → HasRisen (K.faults sink.old) (K.faults sink.new) }
+    ensures sound { F.is_sound shelf.old → IsSome (F.rest shelf.old) → F.faults shelf.new ≡ F.faults shelf.old }
+    ensures room { IfSome (F.rest shelf.old) (λ octets. IfSome (K.room sink.old) (λ room. length (show_text tailoring.now octets) ≤ room → K.faults sink.new ≡ K.faults sink.old)) }
+{
+    let mut reader = RecordReader::new(alloc, PIECE_OCTETS)?;
+    show_entries(alloc, tailoring, &mut reader, shelf, sink)
+}
+
+/// The same by a reader before the first octet.
+fn show_entries<F: Shelf, K: Sink>(
+    alloc: Global,
+    tailoring: &Tailoring,
+    reader: &mut RecordReader,
+    shelf: &mut F,
+    sink: &mut K,
+) -> Result<(), ShowFault>
+    requires { reader.old ≡ reading_at_start }
+    ensures shown { IfSome (F.rest shelf.old) (λ octets. Shows result tailoring.now octets (F.rest shelf.new) (K.taken sink.old) (K.taken sink.new)) }
+    ensures read_fault { IsErrOf result (ShowFault.Record RecordFault.ReadFault) → HasRisen (F.faults shelf.old) (F.faults shelf.new) }
+    ensures write_fault { IsErrOf result ShowFault.WriteFault → HasRisen (K.faults sink.old) (K.faults sink.new) }
+    ensures sound { F.is_sound shelf.old → IsSome (F.rest shelf.old) → F.faults shelf.new ≡ F.faults shelf.old }
+    ensures room { IfSome (F.rest shelf.old) (λ octets. IfSome (K.room sink.old) (λ room. length (show_text tailoring.now octets) ≤ room → K.faults sink.new ≡ K.faults sink.old)) }
+{
+    while let Some(line) = next_line(alloc, tailoring, reader, shelf)? {
+        if write_all(sink, line.as_slice()).is_err() {
+            return Err(ShowFault::WriteFault);
+        }
+    }
+    Ok(())
+}
+
+/// The line of the next entry, and none at the end.
+fn next_line<F: Shelf>(
+    alloc: Global,
+    tailoring: &Tailoring,
+    reader: &mut RecordReader,
+    shelf: &mut F,
+) -> Result<Option<Octets>, RecordFault>
+    ensures takes { TakesLine result tailoring.now reader.old (F.rest shelf.old) reader.new (F.rest shelf.new) }
+    ensures fewer { IfOk result (λ next. IfSome next (λ line. reader.old.room ≡ reader.new.room + 1)) }
+    ensures failed { IsErrOf result RecordFault.ReadFault → HasRisen (F.faults shelf.old) (F.faults shelf.new) }
+    ensures quiet { OnOk result (F.faults shelf.new ≡ F.faults shelf.old) }
+    ensures sound { F.is_sound shelf.old → IsSome (F.rest shelf.old) → F.faults shelf.new ≡ F.faults shelf.old }
+    ensures stays_sound { F.is_sound shelf.old → F.is_sound shelf.new }
+{
+    let Some((_offset, entry)) = reader.next(shelf)? else {
+        return Ok(None);
+    };
+    let line = entry_line(alloc, tailoring, &entry)?;
+    Ok(Some(line))
+}

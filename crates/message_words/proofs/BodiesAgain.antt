@@ -9,14 +9,14 @@ use Rattle.hk_base.specs.TailoringParts.{TailoringParts}
 use Rattle.hk_base.specs.Fields.{octets_of}
 use Rattle.hk_base.specs.Fit.{IsFit}
 use Rattle.hk_base.specs.Parameters.{parameter}
-use Rattle.hk_base.specs.Spelling.{AllFit, counted_octets, flag_octets}
-use Rattle.hk_base.specs.declared.types.BodyFault.{BodyFault}
+use Rattle.body_fields.specs.Spelling.{AllFit, counted_octets, flag_octets}
+use Rattle.body_fields.specs.declared.fault.BodyFault.{BodyFault}
 use Rattle.hk_base.specs.declared.types.Kind.{Kind}
 use Rattle.hk_base.specs.declared.types.Kind.TheVariants.{Housekeeping, Diagnostic}
 use Rattle.hk_base.specs.declared.types.Key.{Key}
 use Rattle.hk_base.specs.declared.types.Definition.{Definition}
 use Rattle.hk_base.proofs.FieldLemmas.{length-digits}
-use Rattle.hk_base.proofs.FitLemmas.{known_in_octets, param_in_octets}
+use Rattle.body_fields.proofs.FitLemmas.{known_in_octets, param_in_octets}
 use Rattle.st03_grammar.specs.Bodies as bodies03
 use Rattle.st03_grammar.specs.Spelling as st03
 use Rattle.st03_grammar.specs.Spelling.{IsRequest03, RequestFits, by_kind, each_subtype}
@@ -36,8 +36,8 @@ use Rattle.st20_grammar.specs.Spelling as st20
 use Rattle.st20_grammar.specs.declared.bodies.Request20.{Request20}
 use Rattle.st20_grammar.specs.declared.bodies.Request20.TheVariants as values
 use Rattle.st20_grammar.proofs.SpellingLemmas.{set_fits}
-use Rattle.hk_base.specs.Reading.{param_fault}
-use Rattle.hk_base.specs.Spelling.{AllStand}
+use Rattle.body_fields.specs.Reading.{param_fault}
+use Rattle.body_fields.specs.Spelling.{AllStand}
 use Rattle.pus_messages.specs.declared.message.RequestBody.{RequestBody}
 use Rattle.pus_messages.specs.declared.message.RequestBody.TheVariants as ask
 use Rattle.message_words.specs.Words.{kind_word, each_word, flag_word, deletion_words, lists_words, pair_words, setting_words, housekeeping_words, statistics_words, value_words}

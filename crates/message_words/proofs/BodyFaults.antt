@@ -2,9 +2,9 @@
 use Rattle.std.proofs.Common.{◌≡◌, ℕ, Bool, true, false, List, length, Option, Some, None, Result, Ok, Err, refl, ap, subst, sym, ◌∙◌, inl, inr}
 use Rattle.std.specs.Prelude.{◌⊎◌, nat_lt, IfSome, if◌then◌else◌}
 use Rattle.std.proofs.lemmas.Bool.{false≢true}
-use Rattle.hk_base.specs.Outcomes.{Fails}
-use Rattle.hk_base.specs.declared.types.BodyFault.{BodyFault}
-use Rattle.hk_base.specs.declared.types.BodyFault.TheVariants as body
+use Rattle.body_fields.specs.Outcomes.{Fails}
+use Rattle.body_fields.specs.declared.fault.BodyFault.{BodyFault}
+use Rattle.body_fields.specs.declared.fault.BodyFault.TheVariants as body
 use Rattle.message_words.specs.Outcomes.{Gives, fault_of}
 use Rattle.message_words.specs.Reading.{most_octets, sound, sound_body}
 use Rattle.message_words.specs.declared.fault.WordsFault.{WordsFault}

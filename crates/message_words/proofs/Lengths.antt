@@ -6,12 +6,12 @@ use Rattle.hk_base.specs.TailoringParts.{TailoringParts}
 use Rattle.hk_base.specs.Fields.{octets_of, signed_octets_of}
 use Rattle.hk_base.specs.Fit.{IsFit}
 use Rattle.hk_base.specs.Parameters.{parameter}
-use Rattle.hk_base.specs.Spelling as base
-use Rattle.hk_base.specs.Spelling.{counted_octets}
+use Rattle.body_fields.specs.Spelling as base
+use Rattle.body_fields.specs.Spelling.{counted_octets}
 use Rattle.hk_base.specs.declared.types.SuperList.{SuperList}
 use Rattle.hk_base.specs.declared.types.Param.{Param}
 use Rattle.hk_base.proofs.FieldLemmas.{length-digits}
-use Rattle.hk_base.proofs.ValueLemmas.{length-value}
+use Rattle.body_fields.proofs.ValueLemmas.{length-value}
 use Rattle.st03_grammar.specs.declared.bodies.Pair.{Pair}
 use Rattle.st03_grammar.specs.Spelling as st03
 use Rattle.st03_grammar.specs.Spelling.{ArrayFits, ListsFit}

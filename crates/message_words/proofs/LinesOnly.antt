@@ -9,10 +9,10 @@ use Rattle.std.proofs.lemmas.Option.{none-some, same_Some}
 use Rattle.std.proofs.lemmas.Slice.Eq.{bytes_eq-Decides}
 use Rattle.hk_base.specs.TailoringParts.{TailoringParts}
 use Rattle.hk_base.specs.Fit.{IsFit}
-use Rattle.hk_base.specs.Spelling.{AreOctets}
+use Rattle.body_fields.specs.Spelling.{AreOctets}
 use Rattle.hk_base.specs.declared.types.Kind.{Kind}
 use Rattle.hk_base.specs.declared.types.Kind.TheVariants.{Housekeeping, Diagnostic}
-use Rattle.hk_base.specs.declared.types.BodyFault.{BodyFault}
+use Rattle.body_fields.specs.declared.fault.BodyFault.{BodyFault}
 use Rattle.st03_grammar.specs.Bodies as bodies03
 use Rattle.st03_grammar.specs.Spelling as st03
 use Rattle.st03_grammar.specs.Spelling.{IsSpelledRequest, by_kind, each_subtype}

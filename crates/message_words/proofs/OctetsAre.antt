@@ -6,7 +6,7 @@ use Rattle.std.specs.List.{AllByRecursion, slice_split}
 use Rattle.hk_base.specs.TailoringParts.{TailoringParts}
 use Rattle.hk_base.specs.Fields.{octets_of, signed_octets_of, twos_complement}
 use Rattle.hk_base.specs.Parameters.{parameter, fits}
-use Rattle.hk_base.specs.Spelling.{AreOctets}
+use Rattle.body_fields.specs.Spelling.{AreOctets}
 use Rattle.hk_base.specs.declared.types.Param.{Param}
 use Rattle.hk_base.proofs.Membership.{AllByRecursion-append}
 use Rattle.message_words.specs.Numbers.{number_in, value_in}

@@ -10,7 +10,7 @@ use Rattle.std.proofs.lemmas.List.Elements.{All-from_recursion}
 use Rattle.hk_base.specs.TailoringParts.{TailoringParts}
 use Rattle.hk_base.specs.Fields.{octets_of}
 use Rattle.hk_base.specs.Fit.{IsFit}
-use Rattle.hk_base.specs.Spelling.{AllFit, counted_octets}
+use Rattle.body_fields.specs.Spelling.{AllFit, counted_octets}
 use Rattle.hk_base.specs.declared.types.SuperList.{SuperList}
 use Rattle.st03_grammar.specs.declared.bodies.Pair.{Pair}
 use Rattle.st03_grammar.specs.Spelling as st03

@@ -9,7 +9,7 @@ use Rattle.std.proofs.Math.Nat.{pow-le-pow_right}
 use Rattle.hk_base.specs.TailoringParts.{TailoringParts}
 use Rattle.hk_base.specs.Fields.{octets_of, signed_octets_of}
 use Rattle.hk_base.specs.Parameters.{parameter, fits}
-use Rattle.hk_base.specs.Spelling.{AllFit, IsCount, counted_octets}
+use Rattle.body_fields.specs.Spelling.{AllFit, IsCount, counted_octets}
 use Rattle.hk_base.specs.declared.types.SuperList.{SuperList}
 use Rattle.st03_grammar.specs.Spelling as st03
 use Rattle.message_words.specs.Words.{words_if_any, array_words, lists_words}

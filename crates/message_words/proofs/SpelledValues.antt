@@ -10,12 +10,12 @@ use Rattle.hk_base.specs.TailoringParts.{TailoringParts}
 use Rattle.hk_base.specs.Fields.{octets_of, signed_octets_of}
 use Rattle.hk_base.specs.Fit.{IsFit, IsFitShape}
 use Rattle.hk_base.specs.Parameters.{parameter, fits}
-use Rattle.hk_base.specs.Spelling as base
-use Rattle.hk_base.specs.Spelling.{IsInOctets, counted_octets}
+use Rattle.body_fields.specs.Spelling as base
+use Rattle.body_fields.specs.Spelling.{IsInOctets, counted_octets}
 use Rattle.hk_base.specs.declared.types.Form.{Form}
 use Rattle.hk_base.specs.declared.types.Form.TheVariants.{Unsigned, Signed, Enumerated, Boolean}
 use Rattle.hk_base.specs.declared.types.Param.{Param}
-use Rattle.hk_base.proofs.FitLemmas.{fits-in_octets, known_in_octets, parameter-fit}
+use Rattle.body_fields.proofs.FitLemmas.{fits-in_octets, known_in_octets, parameter-fit}
 use Rattle.st20_grammar.specs.declared.bodies.Setting.{Setting}
 use Rattle.st20_grammar.specs.Spelling as st20
 use Rattle.st20_grammar.specs.Spelling.{IsSetting}

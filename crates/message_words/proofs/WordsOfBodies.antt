@@ -6,12 +6,12 @@ use Rattle.std.specs.Fmt.{decimal, signed_decimal}
 use Rattle.std.proofs.lemmas.Bool.Decides.{nat_tests}
 use Rattle.hk_base.specs.TailoringParts.{TailoringParts}
 use Rattle.hk_base.specs.Fit.{IsFit}
-use Rattle.hk_base.specs.Spelling.{AllFit}
+use Rattle.body_fields.specs.Spelling.{AllFit}
 use Rattle.hk_base.specs.declared.types.Kind.{Kind}
 use Rattle.hk_base.specs.declared.types.Kind.TheVariants.{Housekeeping, Diagnostic}
 use Rattle.hk_base.specs.declared.types.SuperList.{SuperList}
 use Rattle.hk_base.proofs.Membership.{AllByRecursion-append}
-use Rattle.hk_base.proofs.FitLemmas.{known_in_octets}
+use Rattle.body_fields.proofs.FitLemmas.{known_in_octets}
 use Rattle.st03_grammar.specs.Spelling.{IsRequest03, RequestFits, ArrayFits, ListsFit, PairFits}
 use Rattle.st03_grammar.specs.declared.bodies.Each.{Each}
 use Rattle.st03_grammar.specs.declared.bodies.Each.TheVariants as each

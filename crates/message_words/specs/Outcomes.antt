@@ -1,7 +1,7 @@
 -- What a call on a line answers, against what a definition gives. Want of memory alone is free.
 use Rattle.std.specs.Prelude.{◌≡◌, ⊤, Option, Some, None, Result, Ok, Err}
-use Rattle.hk_base.specs.declared.types.BodyFault.{BodyFault}
-use Rattle.hk_base.specs.declared.types.BodyFault.TheVariants as body
+use Rattle.body_fields.specs.declared.fault.BodyFault.{BodyFault}
+use Rattle.body_fields.specs.declared.fault.BodyFault.TheVariants as body
 use Rattle.message_words.specs.declared.fault.WordsFault.{WordsFault}
 use Rattle.message_words.specs.declared.fault.WordsFault.TheVariants.{Form, Memory}
 

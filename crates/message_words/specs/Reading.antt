@@ -3,7 +3,7 @@ use Rattle.std.specs.Prelude.{ℕ, ◌^◌, nat_lt, Bool, ◌&&◌, List, [], �
 use Rattle.std.specs.List.{slice_split, list_all}
 use Rattle.std.specs.Str.{bytes_eq}
 use Rattle.hk_base.specs.TailoringParts.{TailoringParts}
-use Rattle.hk_base.specs.declared.types.BodyFault.{BodyFault}
+use Rattle.body_fields.specs.declared.fault.BodyFault.{BodyFault}
 use Rattle.st03_grammar.specs.Bodies as st03
 use Rattle.st04_grammar.specs.Bodies as st04
 use Rattle.st20_grammar.specs.Bodies as st20

@@ -1,4 +1,5 @@
-use hk_base::{BodyFault, Memory};
+use body_fields::BodyFault;
+use hk_base::Memory;
 use std::alloc::AllocError;
 
 /// Why a line wasn't read.

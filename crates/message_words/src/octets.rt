@@ -9,7 +9,7 @@ ghost use Rattle.message_words.specs.BodyOctets.{field, number_octets, list_octe
 
 use crate::commands::{StatisticsCommand, StructureCommand, ValueCommand};
 use crate::numbers::{number_in, value_in};
-use hk_base::body::write_value_of;
+use body_fields::write_value_of;
 use hk_base::{Memory, Tailoring, Value, fits, put_uint};
 use std::alloc::{AllocError, Global};
 

@@ -40,15 +40,6 @@ known_ids t view earlier (id ∷ ids) h =
     let known = param_known t (view earlier) id h.0 in
     (subst (λ o. IsTrue (is_some o)) (sym known.1) refl, known_ids t view (id ∷ earlier) ids h.1)
 
-interval_of_grammar : (t : TailoringParts) (n : ℕ) → interval_fault t n ≡ None → IsGrammarInterval t n
-interval_of_grammar t n e = go (n == 0) (nat_lt t.widths.max_interval n) refl refl e
-  where
-    go : (none_test long_test : Bool) → n == 0 ≡ none_test → nat_lt t.widths.max_interval n ≡ long_test
-        → option_or (fault_if none_test ZeroInterval) (fault_if long_test (LongInterval n)) ≡ None → IsGrammarInterval t n
-    go true long_test a b h = absurd (none-some ZeroInterval (sym h))
-    go false true a b h = absurd (none-some (LongInterval n) (sym h))
-    go false false a b h = (grind (arith, nat_tests), grind (arith, nat_tests))
-
 repeated : (interval : Option ℕ) (r : ℕ) → repetition_fault interval r ≡ None → 1 ≤ r
 repeated interval r e = go (r == 0) (option_map_or (λ n. fault_if (not (n % r == 0)) (BadRepetition r n)) interval None) refl e
   where
@@ -112,11 +103,11 @@ each_of_grammar t each kind (id ∷ ids) = (tt, each_of_grammar t each kind ids)
 pairs_of_grammar : (t : TailoringParts) (kind : Kind) (pairs : List Pair) → AllByRecursion (λ p. IsInterval t p.interval) pairs
     → AllByRecursion (OfGrammar t) (map (λ p. (key_of kind p.id, set_interval p.interval)) pairs)
 pairs_of_grammar t kind [] h = tt
-pairs_of_grammar t kind (p ∷ pairs) h = (interval_of_grammar t p.interval h.0.0, pairs_of_grammar t kind pairs h.1)
+pairs_of_grammar t kind (p ∷ pairs) h = (h.0.0, pairs_of_grammar t kind pairs h.1)
 
 changes_of_grammar : (t : TailoringParts) (r : Request03) → IsRequest03 t r → AllByRecursion (OfGrammar t) (structure_changes r)
 changes_of_grammar t (Create key d) is =
-    ((interval_of_grammar t d.interval is.1.0, lists_of_grammar t false (Some d.interval) d.simple d.arrays is.2, all_divide t false d.interval d.simple [] d.arrays is.2.listed), tt)
+    ((is.1.0, lists_of_grammar t false (Some d.interval) d.simple d.arrays is.2, all_divide t false d.interval d.simple [] d.arrays is.2.listed), tt)
 changes_of_grammar t (Append key a) is = (lists_of_grammar t false None a.simple a.arrays is.1, tt)
 changes_of_grammar t (OnEach each kind ids) is = each_of_grammar t each kind ids
 changes_of_grammar t (Intervals kind pairs) is = pairs_of_grammar t kind pairs is.2

@@ -30,7 +30,7 @@ use Rattle.st04_grammar.specs.Bodies as bodies04
 use Rattle.st04_grammar.specs.Spelling as st04
 use Rattle.st04_grammar.specs.declared.bodies.Request04.{Request04}
 use Rattle.st04_grammar.specs.declared.bodies.Request04.TheVariants as stat
-use Rattle.st04_grammar.proofs.SpellingLemmas.{numeric_known, interval_fits}
+use Rattle.st04_grammar.proofs.SpellingLemmas.{numeric_known}
 use Rattle.st20_grammar.specs.Bodies as bodies20
 use Rattle.st20_grammar.specs.Spelling as st20
 use Rattle.st20_grammar.specs.declared.bodies.Request20.{Request20}
@@ -189,7 +189,7 @@ statistics-again t stat.Reset fit few again is = statistics_again t stat.Reset c
 statistics-again t (stat.Enable n) fit few again is =
     let width : ℕ = t.widths.interval_octets in
     statistics_again t (stat.Enable n) commands.Enable (decimal n ∷ []) again is refl
-    (append-nil (field width (number_in (decimal n))) ∙ field-decimal width n few.intervals (interval_fits t n fit is))
+    (append-nil (field width (number_in (decimal n))) ∙ field-decimal width n few.intervals is.1)
     (omega (arith, length-digits 256 width n, few.intervals))
 statistics-again t stat.Disable fit few again is = statistics_again t stat.Disable commands.Disable [] again is refl refl (omega arith)
 statistics-again t (stat.Add ids) fit few again is =

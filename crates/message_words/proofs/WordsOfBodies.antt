@@ -22,7 +22,6 @@ use Rattle.st03_grammar.proofs.Fitting.{request_fits}
 use Rattle.st04_grammar.specs.Spelling as st04
 use Rattle.st04_grammar.specs.declared.bodies.Request04.{Request04}
 use Rattle.st04_grammar.specs.declared.bodies.Request04.TheVariants as stat
-use Rattle.st04_grammar.proofs.SpellingLemmas.{interval_fits}
 use Rattle.st20_grammar.specs.Spelling as st20
 use Rattle.st20_grammar.specs.Spelling.{IsSetting}
 use Rattle.st20_grammar.specs.declared.bodies.Setting.{Setting}
@@ -106,7 +105,7 @@ deletion-words t (id ∷ ids) few fit = numbers t.widths.parameter_octets (id �
 pub statistics-words : (t : TailoringParts) (r : Request04) → IsFit t → AreNarrow t → st04.IsRequest t r → AreWords (statistics_words r)
 statistics-words t (stat.Report resets) fit few is = (refl, (flag-word resets, tt))
 statistics-words t stat.Reset fit few is = (refl, tt)
-statistics-words t (stat.Enable n) fit few is = (refl, (number t.widths.interval_octets n few.intervals (interval_fits t n fit is), tt))
+statistics-words t (stat.Enable n) fit few is = (refl, (number t.widths.interval_octets n few.intervals is.1, tt))
 statistics-words t stat.Disable fit few is = (refl, tt)
 statistics-words t (stat.Add ids) fit few is = (refl, numbers t.widths.parameter_octets ids few.params (numeric_fit t 1 ids fit is))
 statistics-words t (stat.Delete ids) fit few is = (refl, deletion-words t ids few (numeric_fit t 0 ids fit is))

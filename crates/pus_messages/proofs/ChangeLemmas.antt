@@ -1,13 +1,13 @@
 -- The change that a request makes of a structure is its first instruction on it, where that can change it.
-use Rattle.std.proofs.Common.{arith, ◌≡◌, refl, sym, ap, ◌∙◌, ℕ, zero, suc, ◌+◌, List, [], ◌∷◌, map, Bool, true, false, cond, Option, Some, None, inl, inr, ◌⊎◌}
+use Rattle.std.proofs.Common.{arith, ◌≡◌, refl, sym, ap, ◌∙◌, ℕ, suc, ◌+◌, List, [], ◌∷◌, map, Bool, true, false, cond, Option, Some, None, inl, inr, ◌⊎◌}
 use Rattle.std.specs.Prelude.{◌&&◌, slice_get, option_map, filter_map, if◌then◌else◌}
-use Rattle.std.specs.List.{AllByRecursion, enumerate_from, position, position_from, cons_option}
+use Rattle.std.specs.List.{AllByRecursion, enumerate_from, position_from, cons_option}
 use Rattle.std.specs.Option.{option_and_then}
 use Rattle.std.proofs.lemmas.Iterator.Adapters.{position_from-zero}
 use Rattle.hk_base.specs.Parameters.{key_eq}
 use Rattle.hk_base.specs.declared.types.Kind.{Kind}
 use Rattle.hk_base.specs.declared.types.Key.{Key}
-use Rattle.st03_grammar.specs.Instructions.{StructureChange, structure_changes, plain, set_interval, changes, each_changes, instruction_on, place_on, key_of}
+use Rattle.st03_grammar.specs.Instructions.{StructureChange, structure_changes, plain, set_interval, changes, each_changes, instruction_on, key_of}
 use Rattle.st03_grammar.specs.declared.bodies.Pair.{Pair}
 use Rattle.st03_grammar.specs.declared.bodies.Request03.{Request03}
 use Rattle.st03_grammar.specs.declared.bodies.Request03.TheVariants.{Create, Append, OnEach, Intervals}
@@ -15,8 +15,8 @@ use Rattle.st04_grammar.specs.Instructions.{StatisticsChange, statistics_changes
 use Rattle.st04_grammar.specs.declared.bodies.Request04.{Request04}
 use Rattle.st20_grammar.specs.declared.bodies.Request20.{Request20}
 use Rattle.st20_grammar.specs.declared.bodies.Request20.TheVariants.{Report, Set}
-use Rattle.pus_messages.specs.Instructions.{Instruction, on_structure, on_statistics, on_structures, body_instructions}
-use Rattle.pus_messages.specs.Changes.{change_on, numbered_change, first_of_list, change_among}
+use Rattle.pus_messages.specs.Instructions.{on_statistics, on_structures, body_instructions}
+use Rattle.pus_messages.specs.Changes.{numbered_change, first_of_list, change_among}
 use Rattle.pus_messages.specs.declared.message.RequestBody.{RequestBody}
 use Rattle.pus_messages.specs.declared.message.RequestBody.TheVariants.{Stat, Par}
 

@@ -1,11 +1,10 @@
 -- A message that was read is of the grammar.
-use Rattle.std.proofs.Common.{◌≡◌, refl, sym, ap, subst, ◌∙◌, ℕ, ◌≤◌, List, [], ◌∷◌, length, map, arith, Option, Some, None, Result, Ok, Err}
+use Rattle.std.proofs.Common.{◌≡◌, ap, ℕ, ◌≤◌, List, [], ◌∷◌, length, arith, Result, Ok, Err}
 use Rattle.std.specs.Prelude.{IfOk}
 use Rattle.std.specs.Result.{result_map_both}
 use Rattle.std.proofs.lemmas.List.{length-map}
 use Rattle.hk_base.specs.TailoringParts.{TailoringParts}
-use Rattle.body_fields.specs.Spelling.{AreOctets}
-use Rattle.st01_reports.specs.declared.verification.Cause.{Cause}
+use Rattle.hk_base.specs.Spelling.{AreOctets}
 use Rattle.hk_base.specs.declared.types.Key.{Key}
 use Rattle.st03_grammar.specs.Instructions.{StructureChange, plain, set_interval, key_of, structure_changes}
 use Rattle.st03_grammar.specs.declared.bodies.Pair.{Pair}
@@ -16,7 +15,6 @@ use Rattle.st04_grammar.specs.Instructions.{add, delete, statistics_changes}
 use Rattle.st04_grammar.specs.Spelling as st04
 use Rattle.st04_grammar.specs.declared.bodies.Request04.{Request04}
 use Rattle.st04_grammar.specs.declared.bodies.Request04.TheVariants as ask04
-use Rattle.st20_grammar.specs.declared.bodies.Request20.TheVariants as ask20
 use Rattle.pus_messages.specs.Instructions.{Instruction, on_structure, on_statistics, instructions, body_instructions}
 use Rattle.pus_messages.specs.Messages.{protocol, request_of, report_of, cause_of_fault}
 use Rattle.pus_messages.specs.Names.{NamesApart, NoneTwice}

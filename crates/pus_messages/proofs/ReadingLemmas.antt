@@ -14,7 +14,6 @@ use Rattle.pus_packet.specs.declared.header.TmHeader.{TmHeader}
 use Rattle.pus_messages.specs.Messages.{as_body, request_body, report_body, message, request_in, report_in, request_of, report_of}
 use Rattle.pus_messages.specs.Outcomes.{Fails, typed_body, IsFaultOf}
 use Rattle.pus_messages.specs.declared.message.MessageFault.{MessageFault}
-use Rattle.pus_messages.specs.declared.message.MessageFault.TheVariants.{Memory}
 use Rattle.pus_messages.specs.declared.message.Request.{Request}
 use Rattle.pus_messages.specs.declared.message.RequestBody.{RequestBody}
 use Rattle.pus_messages.specs.declared.message.Report.{Report}

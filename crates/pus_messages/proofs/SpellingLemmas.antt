@@ -1,13 +1,13 @@
 -- Messages are read from their packets, and from no other octets.
-use Rattle.std.proofs.Common.{arith, ◌≡◌, refl, sym, ap, subst, ◌∙◌, ℕ, zero, suc, ◌+◌, ◌<◌, ◌^◌, List, [], ◌∷◌, ◌++◌, take, drop, length, get_or, eqb, take-append-drop, Bool, true, false, ◌==◌, Option, Some, None, Result, Ok, Err}
-use Rattle.std.specs.Prelude.{slice_index, if◌then◌else◌, ◌↔◌}
+use Rattle.std.proofs.Common.{arith, ◌≡◌, refl, sym, ap, subst, ◌∙◌, ℕ, zero, suc, ◌+◌, List, [], ◌∷◌, take, drop, take-append-drop, Bool, true, false, ◌==◌, Option, Some, None, Result, Ok, Err}
+use Rattle.std.specs.Prelude.{if◌then◌else◌, ◌↔◌}
 use Rattle.std.proofs.lemmas.Bool.{eqb-true}
 use Rattle.std.proofs.lemmas.Option.{none-some, same_Some}
 use Rattle.hk_base.specs.TailoringParts.{TailoringParts}
-use Rattle.body_fields.specs.Spelling.{AreOctets}
-use Rattle.body_fields.specs.declared.fault.BodyFault.{BodyFault}
-use Rattle.body_fields.proofs.TakingLemmas.{AreOctets-after, AreOctets-before}
-use Rattle.pus_packet.specs.Packets.{packet_fault, unless_fault, command_headers, report_headers, time_octets, checked_part, checksum_octets, split_command, split_report}
+use Rattle.hk_base.specs.Spelling.{AreOctets}
+use Rattle.hk_base.specs.declared.types.BodyFault.{BodyFault}
+use Rattle.hk_base.proofs.TakingLemmas.{AreOctets-after, AreOctets-before}
+use Rattle.pus_packet.specs.Packets.{packet_fault, unless_fault, command_headers, report_headers, time_octets, checked_part, split_command, split_report}
 use Rattle.pus_packet.specs.Joining.{SplitsToCommand, SplitsToReport, IsCommandPacket, IsReportPacket, command_octets}
 use Rattle.pus_packet.specs.Joining as joining
 use Rattle.pus_packet.specs.declared.header.TcHeader.{TcHeader}
@@ -22,14 +22,13 @@ use Rattle.st04_grammar.specs.Spelling as st04
 use Rattle.st20_grammar.specs.Bodies as st20_bodies
 use Rattle.st20_grammar.specs.Spelling as st20
 use Rattle.pus_messages.specs.Messages.{as_body, request_body, report_body, message, request_in, report_in, request_of, report_of}
-use Rattle.pus_messages.specs.Spelling.{IsRequest, IsReport, IsRequestBody, IsReportBody, IsRequestPacket, IsReportPacket as IsReportMessage, request_type, report_type, request_body_octets, report_body_octets, request_octets, report_octets}
+use Rattle.pus_messages.specs.Spelling.{IsRequestBody, IsReportBody, IsRequestPacket, IsReportPacket as IsReportMessage, request_type, report_type, request_body_octets, report_body_octets}
 use Rattle.pus_messages.specs.declared.message.Request.{Request}
 use Rattle.pus_messages.specs.declared.message.RequestBody.{RequestBody}
 use Rattle.pus_messages.specs.declared.message.RequestBody.TheVariants as ask
 use Rattle.pus_messages.specs.declared.message.Report.{Report}
 use Rattle.pus_messages.specs.declared.message.ReportBody.{ReportBody}
 use Rattle.pus_messages.specs.declared.message.ReportBody.TheVariants as tell
-use Rattle.pus_messages.specs.declared.message.MessageFault.{MessageFault}
 use Rattle.pus_messages.specs.declared.message.MessageFault.TheVariants.{Packet, Unknown, Body}
 
 -- values of a service are read from their spelling under their subtype

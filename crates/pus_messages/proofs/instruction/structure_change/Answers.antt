@@ -1,4 +1,4 @@
-use Rattle.std.proofs.Common.{◌≡◌, ◌∙◌, sym, ap}
+use Rattle.std.proofs.Common.{◌∙◌, sym, ap}
 use Rattle.std.specs.Prelude.{option_map}
 use Rattle.st03_grammar.specs.Instructions.{numbered_change}
 use Rattle.pus_messages.proofs.ChangeLemmas.{kept, kept-some, kept-none, change_is}

@@ -4,7 +4,7 @@ use Rattle.std.specs.Prelude.{IfOk}
 use Rattle.std.specs.Result.{result_map_both}
 use Rattle.std.proofs.lemmas.List.{length-map}
 use Rattle.hk_base.specs.TailoringParts.{TailoringParts}
-use Rattle.hk_base.specs.Spelling.{AreOctets}
+use Rattle.body_fields.specs.Spelling.{AreOctets}
 use Rattle.hk_base.specs.declared.types.Key.{Key}
 use Rattle.st03_grammar.specs.Instructions.{StructureChange, plain, set_interval, key_of, structure_changes}
 use Rattle.st03_grammar.specs.declared.bodies.Pair.{Pair}

@@ -4,9 +4,9 @@ use Rattle.std.specs.Prelude.{if◌then◌else◌, ◌↔◌}
 use Rattle.std.proofs.lemmas.Bool.{eqb-true}
 use Rattle.std.proofs.lemmas.Option.{none-some, same_Some}
 use Rattle.hk_base.specs.TailoringParts.{TailoringParts}
-use Rattle.hk_base.specs.Spelling.{AreOctets}
-use Rattle.hk_base.specs.declared.types.BodyFault.{BodyFault}
-use Rattle.hk_base.proofs.TakingLemmas.{AreOctets-after, AreOctets-before}
+use Rattle.body_fields.specs.Spelling.{AreOctets}
+use Rattle.body_fields.specs.declared.fault.BodyFault.{BodyFault}
+use Rattle.body_fields.proofs.TakingLemmas.{AreOctets-after, AreOctets-before}
 use Rattle.pus_packet.specs.Packets.{packet_fault, unless_fault, command_headers, report_headers, time_octets, checked_part, split_command, split_report}
 use Rattle.pus_packet.specs.Joining.{SplitsToCommand, SplitsToReport, IsCommandPacket, IsReportPacket, command_octets}
 use Rattle.pus_packet.specs.Joining as joining

@@ -2,6 +2,5 @@ pub mod LineLemmas
 pub mod EntryLemmas
 pub mod BlockLemmas
 pub mod HeadlineLemmas
-pub mod GivenLemmas
 pub mod ShownLemmas
 pub mod TailoringLemmas

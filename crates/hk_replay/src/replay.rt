@@ -84,12 +84,7 @@ fn run<F: Shelf, K: Sink>(
 }
 
 /// Makes what a job says, and writes it when it is whole.
-fn made<F: Shelf, K: Sink>(
-    alloc: Global,
-    job: Job<'_>,
-    shelf: &mut F,
-    sink: &mut K,
-) -> ReplayStatus
+fn made<F: Shelf, K: Sink>(alloc: Global, job: Job<'_>, shelf: &mut F, sink: &mut K) -> ReplayStatus
     ensures used { result ≡ ReplayStatus.Usage → ⊥ }
     ensures read_fault { result ≡ ReplayStatus.ReadFault → HasRisen (F.faults shelf.old) (F.faults shelf.new) }
     ensures write_fault { result ≡ ReplayStatus.WriteFault → HasRisen (K.faults sink.old) (K.faults sink.new) }
@@ -109,11 +104,7 @@ fn made<F: Shelf, K: Sink>(
 }
 
 /// What a job makes, or how the run ends without it.
-fn job_text<F: Shelf>(
-    alloc: Global,
-    job: Job<'_>,
-    shelf: &mut F,
-) -> Result<Vec<u8>, ReplayStatus>
+fn job_text<F: Shelf>(alloc: Global, job: Job<'_>, shelf: &mut F) -> Result<Vec<u8>, ReplayStatus>
     ensures read_fault { IsErrOf result ReplayStatus.ReadFault → HasRisen (F.faults shelf.old) (F.faults shelf.new) }
     ensures outcome { (outcome : Outcome) → Tells (F.files shelf.old) (asked_job job.entry) outcome → ReadsTo (λ text. text.items) result outcome }
     ensures sound { F.is_sound shelf.old → (outcome : Outcome) → Tells (F.files shelf.old) (asked_job job.entry) outcome → F.faults shelf.new ≡ F.faults shelf.old }

@@ -63,7 +63,12 @@ pub fn file_of(alloc: Global, name: &str, parts: &[&[u8]]) -> Result<(Octets, Oc
 }
 
 /// A shelf with the record of these parts. Its reads give at most so many octets, and its listed calls fail.
-pub fn shelf_of(alloc: Global, parts: &[&[u8]], failing: &[u32], most: u32) -> Result<MemShelf, Memory>
+pub fn shelf_of(
+    alloc: Global,
+    parts: &[&[u8]],
+    failing: &[u32],
+    most: u32,
+) -> Result<MemShelf, Memory>
     requires { 1 ≤ most }
 {
     let file = file_of(alloc, "record", parts)?;

@@ -2,8 +2,8 @@
 use crate::replay::replay_main;
 use crate::status::ReplayStatus;
 use crate::tests::{
-    KNOWN, LINE, REPORT, REQUEST, assert_status, file_of, format, run_with_files, shelf_of, sink_of,
-    words_of,
+    KNOWN, LINE, REPORT, REQUEST, assert_status, file_of, format, run_with_files, shelf_of,
+    sink_of, words_of,
 };
 use hk_base::{MemShelf, MemSink, Memory};
 use session_record::RecordFault;
@@ -44,7 +44,8 @@ const LINES: &str = "0 f create hk 9 interval 4 simple 1 array 2 3\n\
     28 f set 7 500\n";
 
 /// The record of these requests.
-const ENCODED: &[u8] = b"HKREC1K\x0aS\x00\x00\x00\x16\x18d\xc0\x00\x00\x0f/\x03\x01\x00\x01\x09\x00\x04\x01\
+const ENCODED: &[u8] =
+    b"HKREC1K\x0aS\x00\x00\x00\x16\x18d\xc0\x00\x00\x0f/\x03\x01\x00\x01\x09\x00\x04\x01\
     \x00\x01\x01\x02\x01\x00\x03S\x00\x00\x00\x14\x18d\xc0\x01\x00\x0d/\x03\x02\x00\x01\
     \x03\x00\x08\x00\x01\x02\x01\x00\x03S\x00\x00\x00\x10\x18d\xc0\x02\x00\x09/\x03\x1d\
     \x00\x01\x09\x01\x00\x02\x00S\x00\x00\x00\x14\x18d\xc0\x03\x00\x0d/\x03\x1e\x00\x01\
@@ -70,7 +71,8 @@ const ENCODED: &[u8] = b"HKREC1K\x0aS\x00\x00\x00\x16\x18d\xc0\x00\x00\x0f/\x03\
     \x18d\xc0\x1c\x00\x09/\x14\x03\x00\x01\x01\x00\x07\x01\xf4";
 
 /// A record with a report of each type. Its start is unknown and its session long.
-const REPORTS: &[u8] = b"HKREC2U\x0aG\x00\x00\x00\x17\x08d\xc0\x00\x00\x10\x20\x01\x01\x00\x00\x00\x01\x00\
+const REPORTS: &[u8] =
+    b"HKREC2U\x0aG\x00\x00\x00\x17\x08d\xc0\x00\x00\x10\x20\x01\x01\x00\x00\x00\x01\x00\
     \x00\x00\x00\x00\x05\x18d\xc0\x00G\x00\x00\x00\x1d\x08d\xc0\x00\x00\x16\x20\x01\x02\
     \x00\x00\x00\x01\x00\x00\x00\x00\x00\x06\x18d\xc0\x01\x00f\x00\x00\x00\x07G\x00\x00\
     \x00\x17\x08d\xc0\x00\x00\x10\x20\x01\x03\x00\x00\x00\x01\x00\x00\x00\x00\x00\x07\
@@ -119,6 +121,7 @@ const SHOWN_REPORTS: &str = "got 5 1.1 request 1864c000\n\
 
 /// A request that was sent, and a report that was received, as they are shown.
 const SHOWN_REQUEST: &str = "sent 0 f interval hk 2 4\n";
+
 const SHOWN_REPORT: &str = "got 16385 3.25 hk 1 octets 2\n";
 
 /// What a run with these words ends with, and writes, on a shelf with a record and a file `other`.
@@ -145,7 +148,15 @@ fn check_shown(
     status: ReplayStatus,
     text: &str,
 ) -> Result<(), Memory> {
-    check(rt, alloc, &["show", "builtin", "record"], parts, &[], status, text.as_bytes())
+    check(
+        rt,
+        alloc,
+        &["show", "builtin", "record"],
+        parts,
+        &[],
+        status,
+        text.as_bytes(),
+    )
 }
 
 /// The record of `encode` for these lines.
@@ -156,7 +167,15 @@ fn check_encoded(
     status: ReplayStatus,
     record: &[u8],
 ) -> Result<(), Memory> {
-    check(rt, alloc, &["encode", "builtin", "other"], &[], lines, status, record)
+    check(
+        rt,
+        alloc,
+        &["encode", "builtin", "other"],
+        &[],
+        lines,
+        status,
+        record,
+    )
 }
 
 #[test]
@@ -175,7 +194,13 @@ fn each_type_of_request(rt: HostRuntime) -> Result<(), Fail> {
 
 #[test]
 fn each_type_of_report(rt: HostRuntime) -> Result<(), Fail> {
-    check_shown(&rt, rt.alloc(), &[REPORTS], ReplayStatus::Done, SHOWN_REPORTS)?;
+    check_shown(
+        &rt,
+        rt.alloc(),
+        &[REPORTS],
+        ReplayStatus::Done,
+        SHOWN_REPORTS,
+    )?;
     Ok(())
 }
 
@@ -187,9 +212,18 @@ fn entries_of_every_kind(rt: HostRuntime) -> Result<(), Fail> {
         (&[b"HKREC2U\n", REQUEST], SHOWN_REQUEST),
         (&[b"HKREC1U\n", REPORT], SHOWN_REPORT),
         (&[KNOWN, LINE], "journal noon\n"),
-        (&[KNOWN, b"J\x00\x00\x00\x05\x1f ~\x7f\xff"], "journal ? ~??\n"),
-        (&[KNOWN, b"S\x00\x00\x00\x03abcG\x00\x00\x00\x00"], "sent unread\ngot unread\n"),
-        (&[KNOWN, b"G\x00\x00\x00\x06\x08\x65\x00\x00\x00\x00"], "got foreign 101\n"),
+        (
+            &[KNOWN, b"J\x00\x00\x00\x05\x1f ~\x7f\xff"],
+            "journal ? ~??\n",
+        ),
+        (
+            &[KNOWN, b"S\x00\x00\x00\x03abcG\x00\x00\x00\x00"],
+            "sent unread\ngot unread\n",
+        ),
+        (
+            &[KNOWN, b"G\x00\x00\x00\x06\x08\x65\x00\x00\x00\x00"],
+            "got foreign 101\n",
+        ),
         (
             &[
                 KNOWN,
@@ -209,9 +243,21 @@ fn the_lines_before_a_fault(rt: HostRuntime) -> Result<(), Fail> {
     let alloc = rt.alloc();
     let table: [(&[&[u8]], RecordFault, &str); 4] = [
         (&[b"HKR"], RecordFault::BadMagic, ""),
-        (&[KNOWN, REQUEST, &REPORT[..26]], RecordFault::Cut(28), SHOWN_REQUEST),
-        (&[KNOWN, REQUEST, b"X"], RecordFault::BadKind(88, 28), SHOWN_REQUEST),
-        (&[KNOWN, REPORT, b"G\xff\xff\xff\xff"], RecordFault::TooLong(35), SHOWN_REPORT),
+        (
+            &[KNOWN, REQUEST, &REPORT[..26]],
+            RecordFault::Cut(28),
+            SHOWN_REQUEST,
+        ),
+        (
+            &[KNOWN, REQUEST, b"X"],
+            RecordFault::BadKind(88, 28),
+            SHOWN_REQUEST,
+        ),
+        (
+            &[KNOWN, REPORT, b"G\xff\xff\xff\xff"],
+            RecordFault::TooLong(35),
+            SHOWN_REPORT,
+        ),
     ];
     for (parts, fault, text) in table {
         check_shown(&rt, alloc, parts, format(fault), text)?;
@@ -228,7 +274,12 @@ fn damaged_packets(rt: HostRuntime) -> Result<(), Fail> {
             for octet in [0u8, 1, 0x20, 0x7f, 0x80, 0xff] {
                 let damaged = [octet];
                 let parts: [&[u8]; 4] = [KNOWN, &entry[..place], &damaged, &entry[place + 1..]];
-                let (status, sink) = run_with_files(alloc, &["show", "builtin", "record"], &parts, &[])?;
+                let (status, sink) = run_with_files(
+                    alloc,
+                    &["show", "builtin", "record"],
+                    &parts,
+                    &[],
+                )?;
                 assert_status(&rt, alloc, &status, &ReplayStatus::Done)?;
                 let feeds = sink.taken().iter().filter(|octet| **octet == b'\n').count();
                 assert_eq!(rt; feeds, 1);
@@ -312,7 +363,13 @@ fn lines_that_are_refused(rt: HostRuntime) -> Result<(), Fail> {
         ("0 f delete hk 1 1", 1),
     ];
     for (lines, number) in table {
-        check_encoded(&rt, alloc, &[lines.as_bytes()], ReplayStatus::Text(number), b"")?;
+        check_encoded(
+            &rt,
+            alloc,
+            &[lines.as_bytes()],
+            ReplayStatus::Text(number),
+            b"",
+        )?;
     }
     Ok(())
 }
@@ -323,8 +380,20 @@ fn lines_that_are_taken(rt: HostRuntime) -> Result<(), Fail> {
     let one = &[KNOWN, REQUEST];
     let (_, record) = file_of(alloc, "record", one)?;
     check_encoded(&rt, alloc, &[], ReplayStatus::Done, KNOWN)?;
-    check_encoded(&rt, alloc, &[b"0 f interval hk 2 4"], ReplayStatus::Done, record.as_slice())?;
-    check_encoded(&rt, alloc, &[b"0 f interval hk 2 4\n"], ReplayStatus::Done, record.as_slice())?;
+    check_encoded(
+        &rt,
+        alloc,
+        &[b"0 f interval hk 2 4"],
+        ReplayStatus::Done,
+        record.as_slice(),
+    )?;
+    check_encoded(
+        &rt,
+        alloc,
+        &[b"0 f interval hk 2 4\n"],
+        ReplayStatus::Done,
+        record.as_slice(),
+    )?;
     Ok(())
 }
 
@@ -332,7 +401,13 @@ fn lines_that_are_taken(rt: HostRuntime) -> Result<(), Fail> {
 fn lines_that_are_too_long(rt: HostRuntime) -> Result<(), Fail> {
     let alloc = rt.alloc();
     let long = vec![in alloc; b'#'; 16_777_217]?;
-    check_encoded(&rt, alloc, &[&long.as_slice()[1..]], ReplayStatus::Text(1), b"")?;
+    check_encoded(
+        &rt,
+        alloc,
+        &[&long.as_slice()[1..]],
+        ReplayStatus::Text(1),
+        b"",
+    )?;
     check_encoded(&rt, alloc, &[long.as_slice()], ReplayStatus::Text(0), b"")?;
     Ok(())
 }

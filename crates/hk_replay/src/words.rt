@@ -43,7 +43,11 @@ pub fn command_in(words: &[String]) -> Option<Command<'_>>
 {
     match words {
         [form, tailoring, name] => {
-            command_on(form.as_str(), tailoring_named(tailoring.as_str()), name.as_str())
+            command_on(
+                form.as_str(),
+                tailoring_named(tailoring.as_str()),
+                name.as_str(),
+            )
         }
         [form, tailoring] if form.as_str() == "check" => {
             Some(Command::Make(Job::Check(tailoring_named(tailoring.as_str()))))

@@ -11,7 +11,6 @@ use Rattle.record_commands.specs.Encoding.{longer_first, lines_by, lines, line_l
 use Rattle.record_commands.specs.declared.encoding.EncodeFault.{EncodeFault}
 use Rattle.record_commands.specs.declared.encoding.EncodeFault.TheVariants.{Line, ReadFault, Memory}
 
-
 pub length_within : (text : List ℕ) → line_length text ≤ length text
 length_within [] = zero-le
 length_within (octet ∷ rest) = by_feed (octet == 10) (length_within rest)

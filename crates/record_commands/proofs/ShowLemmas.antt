@@ -133,8 +133,7 @@ prefix_more (Some b) (Some n) after done line rest text is written part =
     let size = ap length is ∙ length-append done (line ++ rest) in
     let sizes = length-append line rest in
     let front : take (length done + count) text ≡ done ++ take count line =
-    ap (take (length done + count)) is ∙ take-append-add done (line ++ rest) count ∙ ap (λ xs. done ++ xs) (take_line count line rest part.1) in
-    (
+    ap (take (length done + count)) is ∙ take-append-add done (line ++ rest) count ∙ ap (λ xs. done ++ xs) (take_line count line rest part.1) in (
       length done + count,
       omega (arith, size, sizes, part.1),
       part.2 ∙ ap Some (ap (λ xs. xs ++ take count line) at ∙ append_assoc b done (take count line) ∙ ap (λ xs. b ++ xs) (sym front)),
@@ -177,8 +176,7 @@ shows_next t (Some octets) r s (Some m) (Some a) before now after line keeps tak
     let more_given = takes.0.0 in
     let step : (more : List ℕ) → show_text t ((k.given ++ more_given) ++ more) ≡ (k.done ++ line) ++ lines_to_come t (to_come s more) =
     λ more. ap (show_text t) (append_assoc k.given more_given more) ∙ k.onward (more_given ++ more)
-    ∙ ap (λ xs. k.done ++ xs) (takes.0.2 more) ∙ sym (append_assoc k.done line (lines_to_come t (to_come s more))) in
-    (
+    ∙ ap (λ xs. k.done ++ xs) (takes.0.2 more) ∙ sym (append_assoc k.done line (lines_to_come t (to_come s more))) in (
       record {
         given = k.given ++ more_given;
         split = k.split ∙ ap (λ xs. k.given ++ xs) takes.0.1 ∙ sym (append_assoc k.given more_given a);
@@ -217,8 +215,7 @@ shows_fault t (Some octets) r s (Some m) None before now fault keeps takes = abs
 shows_fault t (Some octets) r s (Some m) (Some a) before now ReadFault keeps takes =
     let k = keeps.0 in
     let more_given = takes.0.0 in
-    let text : show_text t (k.given ++ more_given) ≡ k.done = k.onward more_given ∙ ap (λ xs. k.done ++ xs) takes.0.2 ∙ append-nil k.done in
-    (
+    let text : show_text t (k.given ++ more_given) ≡ k.done = k.onward more_given ∙ ap (λ xs. k.done ++ xs) takes.0.2 ∙ append-nil k.done in (
       (
         (
           k.given ++ more_given,

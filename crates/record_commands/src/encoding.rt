@@ -81,11 +81,7 @@ pub fn encode<F: Shelf>(
 }
 
 /// The same of a text.
-fn encode_text(
-    alloc: Global,
-    tailoring: &Tailoring,
-    text: &[u8],
-) -> Result<Octets, EncodeFault>
+fn encode_text(alloc: Global, tailoring: &Tailoring, text: &[u8]) -> Result<Octets, EncodeFault>
     requires { length text.now ≤ 2 ^ 24 }
     ensures record { Encodes result (record_of_lines tailoring.now text.now) }
     ensures unread { IsErrOf result EncodeFault.ReadFault → ⊥ }
@@ -127,8 +123,7 @@ fn put_line(
     line: &[u8],
     draft: &mut Draft,
 ) -> Result<(), EncodeFault>
-    requires size { length line.now ≤ 2 ^ 24 }
-    requires number { number ≤ 2 ^ 24 }
+    requires { number ≤ 2 ^ 24 }
     ensures { IsLinePut result number (requests.line_packet tailoring.now number line.now) draft.old.octets.items draft.new.octets.items }
 {
     let Some(packet) = line_packet(alloc, tailoring, number, line)? else {
@@ -142,7 +137,6 @@ fn put_line(
 fn split_line(text: &[u8]) -> (&[u8], &[u8])
     requires { 0 < length text.now }
     ensures lines { lines text.now ≡ result.0.now ∷ lines result.1.now }
-    ensures within { length result.0.now ≤ length text.now }
     ensures shorter { length result.1.now < length text.now }
 {
     let end = line_length(text);

@@ -1,4 +1,4 @@
-use Rattle.std.proofs.Common.{◌≡◌, ◌∙◌, ap, get_or, lit≤, lit<, refl, sym, subst, List, [], ◌∷◌, None, true, rules}
+use Rattle.std.proofs.Common.{◌≡◌, ◌∙◌, ℕ, ap, get_or, lit≤, lit<, refl, sym, subst, List, [], ◌∷◌, None, true, rules}
 use Rattle.std.specs.List.{IsDistinct}
 use Rattle.hk_base.specs.Fit.{IsFit, IsFitWidths}
 use Rattle.hk_base.specs.TailoringParts.{TailoringParts}

@@ -1,6 +1,6 @@
 -- The instructions of a request of the grammar are changes of the grammar.
-use Rattle.std.proofs.Common.{arith, ◌≡◌, ℕ, zero, suc, ◌%◌, ◌≤◌, ◌==◌, refl, sym, subst, List, [], ◌∷◌, ◌++◌, length, length-append, map, Bool, true, false, Option, Some, None}
-use Rattle.std.specs.Prelude.{not, flat_map, is_some, slice_get, nat_lt, IsTrue}
+use Rattle.std.proofs.Common.{arith, ◌≡◌, ℕ, zero, suc, ◌%◌, ◌≤◌, ◌==◌, refl, sym, subst, List, [], ◌∷◌, length, length-append, map, Bool, true, false, Option, Some, None}
+use Rattle.std.specs.Prelude.{not, flat_map, is_some, nat_lt, IsTrue}
 use Rattle.std.specs.List.{AllByRecursion}
 use Rattle.std.specs.Option.{option_or, option_map_or}
 use Rattle.std.proofs.lemmas.Bool.{eqb-true, not-false}
@@ -14,7 +14,6 @@ use Rattle.body_fields.specs.declared.fault.BodyFault.{BodyFault}
 use Rattle.body_fields.specs.declared.fault.BodyFault.TheVariants.{ZeroCount, ZeroInterval, LongInterval, BadRepetition}
 use Rattle.hk_base.specs.declared.types.Kind.{Kind}
 use Rattle.hk_base.specs.declared.types.Key.{Key}
-use Rattle.hk_base.specs.declared.types.Param.{Param}
 use Rattle.hk_base.specs.declared.types.SuperList.{SuperList}
 use Rattle.hk_base.proofs.Finds.{slice_get_each}
 use Rattle.body_fields.proofs.FitLemmas.{param_known}

@@ -1,7 +1,5 @@
-use Rattle.std.proofs.Common.{arith, ◌≡◌, ◌+◌, length, None, sym, subst}
+use Rattle.std.proofs.Common.{arith}
 use Rattle.std.proofs.lemmas.Grind.{common_steps}
-use Rattle.hk_base.specs.Definitions.{parameter_ids, listed_ids, IsWellFormed}
-use Rattle.report_structures.specs.Effects.{if_doubled, if_uneven, if_too_many}
 use Rattle.report_structures.proofs.FormedLemmas.{extended_formed}
 use Rattle.report_structures.proofs.application.append.Goals as goal
 

@@ -76,144 +76,139 @@ fn is_line_of(
     is_written && is_read
 }
 
-fn header(count: u16, flags: u8, service: u8, subtype: u8) -> TcHeader {
-    TcHeader {
+/// The number in a word of a row.
+fn number(word: Option<&str>) -> Option<u64> {
+    word?.parse::<u64>().ok()
+}
+
+fn small_number(word: Option<&str>) -> Option<u8> {
+    u8::try_from(number(word)?).ok()
+}
+
+/// The octets of a body, each two digits to the base 16.
+fn octets_in(alloc: Global, digits: &str) -> Option<Vec<u8>> {
+    let mut octets = Vec::new(alloc);
+    let mut high = None;
+    for digit in digits.as_bytes() {
+        let value = if *digit < 58 {
+            digit.saturating_sub(48)
+        } else {
+            digit.saturating_sub(87)
+        };
+        high = match high {
+            None => Some(value),
+            Some(front) => {
+                octets
+                    .push(u8::wrapping_mul(front, 16).wrapping_add(value))
+                    .ok()?;
+                None
+            }
+        };
+    }
+    Some(octets)
+}
+
+/// Whether a row `LINE = COUNT FLAGS SERVICE SUBTYPE BODY` is right both ways.
+fn is_request_row(alloc: Global, tailoring: &Tailoring, row: &str) -> Option<bool> {
+    let (line, told) = row.split_once(" = ")?;
+    let mut words = told.split(' ');
+    let header = TcHeader {
         apid: 100,
-        count,
-        flags,
-        service,
-        subtype,
+        count: u16::try_from(number(words.next())?).ok()?,
+        flags: small_number(words.next())?,
+        service: small_number(words.next())?,
+        subtype: small_number(words.next())?,
         source: 1,
-    }
+    };
+    let body = octets_in(alloc, words.next()?)?;
+    Some(is_line_of(alloc, tailoring, line, header, &body))
 }
 
+const REQUESTS: &str = "0 f interval hk 2 4 = 0 15 3 31 01020004
+9 2 interval diag 1 2 3 4096 = 9 2 3 32 02010002031000
+5 0 create hk 9 interval 8 simple 1 array 4 3 2 = 5 0 3 1 09000801000101040200030002
+7 3 create diag 255 interval 4096 array 1 16 = 7 3 3 2 ff1000000101010010
+16383 a append hk 3 simple 10 11 10 = 16383 10 3 29 0303000a000b000a00
+1 1 append diag 1 array 7 4 array 9 5 = 1 1 3 30 0100020701000409010005
+1 9 delete hk 1 200 = 1 9 3 3 0201c8
+2 f delete diag 0 = 2 15 3 4 0100
+3 f enable hk 3 = 3 15 3 5 0103
+4 f disable hk 3 = 4 15 3 6 0103
+5 f enable diag 1 2 3 = 5 15 3 7 03010203
+6 f disable diag 1 = 6 15 3 8 0101
+7 f structures hk 2 = 7 15 3 9 0102
+8 f structures diag 1 = 8 15 3 11 0101
+9 f oneshot hk 1 = 9 15 3 27 0101
+10 f oneshot diag 1 = 10 15 3 28 0101
+11 f periodic hk 2 1 = 11 15 3 33 020201
+12 f periodic diag 4 = 12 15 3 34 0104
+20 f stat-report 0 = 20 15 4 1 00
+20 f stat-report 1 = 20 15 4 1 01
+20 f stat-reset = 20 15 4 3 
+20 f stat-enable 300 = 20 15 4 4 012c
+20 f stat-disable = 20 15 4 5 
+20 f stat-add 1 = 20 15 4 6 010001
+20 f stat-delete 6 2 = 20 15 4 7 0200060002
+20 f stat-delete all = 20 15 4 7 00
+20 f stat-definitions = 20 15 4 8 
+20 f report-values 4 5 = 20 15 20 1 0200040005
+20 f set 7 500 = 20 15 20 3 01000701f4";
+
 #[test]
-fn requests_on_structures_have_words(rt: HostRuntime) -> Result<(), Fail> {
+fn requests_have_words(rt: HostRuntime) -> Result<(), Fail> {
     let tailoring = builtin(rt.alloc())?;
-    let rows: [(&str, u16, u8, u8, &[u8]); 18] = [
-        ("0 f interval hk 2 4", 0, 15, 31, &[1, 2, 0, 4]),
-        (
-            "9 2 interval diag 1 2 3 4096",
-            9,
-            2,
-            32,
-            &[2, 1, 0, 2, 3, 16, 0],
-        ),
-        (
-            "5 0 create hk 9 interval 8 simple 1 array 4 3 2",
-            5,
-            0,
-            1,
-            &[9, 0, 8, 1, 0, 1, 1, 4, 2, 0, 3, 0, 2],
-        ),
-        (
-            "7 3 create diag 255 interval 4096 array 1 16",
-            7,
-            3,
-            2,
-            &[255, 16, 0, 0, 1, 1, 1, 0, 16],
-        ),
-        (
-            "16383 a append hk 3 simple 10 11 10",
-            16383,
-            10,
-            29,
-            &[3, 3, 0, 10, 0, 11, 0, 10, 0],
-        ),
-        (
-            "1 1 append diag 1 array 7 4 array 9 5",
-            1,
-            1,
-            30,
-            &[1, 0, 2, 7, 1, 0, 4, 9, 1, 0, 5],
-        ),
-        ("1 9 delete hk 1 200", 1, 9, 3, &[2, 1, 200]),
-        ("2 f delete diag 0", 2, 15, 4, &[1, 0]),
-        ("3 f enable hk 3", 3, 15, 5, &[1, 3]),
-        ("4 f disable hk 3", 4, 15, 6, &[1, 3]),
-        ("5 f enable diag 1 2 3", 5, 15, 7, &[3, 1, 2, 3]),
-        ("6 f disable diag 1", 6, 15, 8, &[1, 1]),
-        ("7 f structures hk 2", 7, 15, 9, &[1, 2]),
-        ("8 f structures diag 1", 8, 15, 11, &[1, 1]),
-        ("9 f oneshot hk 1", 9, 15, 27, &[1, 1]),
-        ("10 f oneshot diag 1", 10, 15, 28, &[1, 1]),
-        ("11 f periodic hk 2 1", 11, 15, 33, &[2, 2, 1]),
-        ("12 f periodic diag 4", 12, 15, 34, &[1, 4]),
-    ];
-    for (line, count, flags, subtype, body) in rows {
-        let header = header(count, flags, 3, subtype);
-        assert!(rt;
-            is_line_of(rt.alloc(), &tailoring, line, header, body),
-            "{line}"
+    for row in REQUESTS.lines() {
+        assert_eq!(rt;
+            is_request_row(rt.alloc(), &tailoring, row),
+            Some(true),
+            "{row}"
         );
     }
     Ok(())
 }
 
-#[test]
-fn other_requests_have_words(rt: HostRuntime) -> Result<(), Fail> {
-    let tailoring = builtin(rt.alloc())?;
-    let rows: [(&str, u8, u8, &[u8]); 11] = [
-        ("20 f stat-report 0", 4, 1, &[0]),
-        ("20 f stat-report 1", 4, 1, &[1]),
-        ("20 f stat-reset", 4, 3, &[]),
-        ("20 f stat-enable 300", 4, 4, &[1, 44]),
-        ("20 f stat-disable", 4, 5, &[]),
-        ("20 f stat-add 1", 4, 6, &[1, 0, 1]),
-        ("20 f stat-delete 6 2", 4, 7, &[2, 0, 6, 0, 2]),
-        ("20 f stat-delete all", 4, 7, &[0]),
-        ("20 f stat-definitions", 4, 8, &[]),
-        ("20 f report-values 4 5", 20, 1, &[2, 0, 4, 0, 5]),
-        ("20 f set 7 500", 20, 3, &[1, 0, 7, 1, 0xf4]),
-    ];
-    for (line, service, subtype, body) in rows {
-        let header = header(20, 15, service, subtype);
-        assert!(rt;
-            is_line_of(rt.alloc(), &tailoring, line, header, body),
-            "{line}"
-        );
-    }
-    Ok(())
-}
-
-/// A tailoring with two settable parameters: a signed one of one octet, and an unsigned one of eight.
+/// A tailoring with one settable parameter, a signed one of one octet.
 fn settable(alloc: Global) -> Result<Tailoring, Memory> {
-    let signed = Param {
+    let param = Param {
         id: 2,
         form: Form::Signed,
         octets: 1,
         bits: 8,
         initial: Some(0),
     };
-    let unsigned = Param {
-        id: 3,
-        form: Form::Unsigned,
-        octets: 8,
-        bits: 64,
-        initial: Some(0),
-    };
-    let params = Items::from_vec(Vec::from_array(alloc, [signed, unsigned])?);
-    Tailoring::new(
-        alloc,
-        BUILTIN_WIDTHS,
-        params,
-        Items::from_vec(Vec::new(alloc)),
-    )
+    let params = Items::from_vec(Vec::from_array(alloc, [param])?);
+    let boots = Items::from_vec(Vec::new(alloc));
+    Tailoring::new(alloc, BUILTIN_WIDTHS, params, boots)
 }
+
+const SETTINGS: &str = "0 f set 2 -3 = 0 15 20 3 010002fd
+1 0 set 2 -128 = 1 0 20 3 01000280
+2 1 set 2 127 = 2 1 20 3 0100027f";
+
+const OTHER_SETTINGS: &str = "0 f set 2 128
+0 f set 2 -129
+0 f set 2 -0
+0 f set 2 - 3 1
+0 f set 2 --1
+0 f set 2 18446744073709551616
+0 f set 2 340282366920938463463374607431768211453";
 
 #[test]
 fn values_have_words(rt: HostRuntime) -> Result<(), Fail> {
     let tailoring = settable(rt.alloc())?;
-    let body = [2, 0, 2, 0xfd, 0, 3, 255, 255, 255, 255, 255, 255, 255, 255];
-    let line = "0 f set 2 -3 3 18446744073709551615";
-    let header = header(0, 15, 20, 3);
-    assert!(rt; is_line_of(rt.alloc(), &tailoring, line, header, body.as_slice()));
-    assert!(rt; has_no_form(rt.alloc(), &tailoring, b"0 f set 2 128"));
-    assert!(rt; has_no_form(rt.alloc(), &tailoring, b"0 f set 2 -129"));
-    assert!(rt; has_no_form(rt.alloc(), &tailoring, b"0 f set 2 -0"));
-    assert!(rt; has_no_form(rt.alloc(), &tailoring, b"0 f set 2 - 3 1"));
-    assert!(rt; has_no_form(rt.alloc(), &tailoring, b"0 f set 3 -1"));
-    assert!(rt; has_no_form(rt.alloc(), &tailoring, b"0 f set 3 18446744073709551616"));
+    for row in SETTINGS.lines() {
+        assert_eq!(rt;
+            is_request_row(rt.alloc(), &tailoring, row),
+            Some(true),
+            "{row}"
+        );
+    }
+    for line in OTHER_SETTINGS.lines() {
+        assert!(rt;
+            has_no_form(rt.alloc(), &tailoring, line.as_bytes()),
+            "{line}"
+        );
+    }
     Ok(())
 }
 
@@ -222,74 +217,76 @@ fn has_no_form(alloc: Global, tailoring: &Tailoring, line: &[u8]) -> bool {
     matches!(read_words(alloc, tailoring, line), Err(WordsFault::Form))
 }
 
+const OTHER_LINES: &str = "
+ 
+0
+0 f
+0 f 
+0  f stat-reset
+ 0 f stat-reset
+0 f stat-reset 
+0 f  stat-reset
+00 f stat-reset
++0 f stat-reset
+-0 f stat-reset
+16384 f stat-reset
+4294967296 f stat-reset
+x f stat-reset
+0 F stat-reset
+0 g stat-reset
+0 0f stat-reset
+0 10 stat-reset
+0 f stat-rese
+0 f Stat-reset
+0 f stat-reset 1
+0 f stät-reset
+0 f enable hk 99999
+0 f enable hk 256
+0 f enable hk
+0 f enable 1
+0 f enable HK 1
+0 f enable hk 01
+0 f enable hk 1 1
+0 f interval hk 2
+0 f interval hk 2 0
+0 f interval hk 2 4097
+0 f interval hk 2 4 3
+0 f interval hk 2 4 2 8
+0 f create hk 9 interval 4
+0 f create hk 9 interval 4 simple
+0 f create hk 9 4 simple 1
+0 f create hk 9 simple 1
+0 f create hk 9 interval 0 simple 1
+0 f create hk 9 interval 4 simple 8
+0 f create hk 9 interval 4 array 3 1
+0 f create hk 9 interval 4 array 0 1
+0 f create hk 9 interval 4 array 2
+0 f create hk 9 interval 4 array
+0 f create hk 9 interval 4 array 2 1 simple 1
+0 f append hk 1
+0 f stat-report 2
+0 f stat-report
+0 f stat-enable 0
+0 f stat-add 4
+0 f stat-delete
+0 f stat-delete all 1
+0 f report-values 1 1
+0 f report-values 65536
+0 f set 1 5
+0 f set 7 65536";
+
 #[test]
 fn other_lines_have_no_form(rt: HostRuntime) -> Result<(), Fail> {
     let tailoring = builtin(rt.alloc())?;
-    let lines: [&[u8]; 60] = [
-        b"",
-        b" ",
-        b"0",
-        b"0 f",
-        b"0 f ",
-        b"0  f stat-reset",
-        b" 0 f stat-reset",
-        b"0 f stat-reset ",
-        b"0 f stat-reset\r",
-        b"0 f stat-reset\n",
-        b"0\tf stat-reset",
-        b"00 f stat-reset",
-        b"+0 f stat-reset",
-        b"-0 f stat-reset",
-        b"16384 f stat-reset",
-        b"4294967296 f stat-reset",
-        b"x f stat-reset",
-        b"0 F stat-reset",
-        b"0 g stat-reset",
-        b"0 0f stat-reset",
-        b"0 10 stat-reset",
-        b"0 f stat-rese",
-        b"0 f Stat-reset",
-        b"0 f stat-reset 1",
-        b"0 f st\xc3\xa4t-reset",
-        b"0 f stat-reset\xff",
-        b"0 f enable hk 99999",
-        b"0 f enable hk 256",
-        b"0 f enable hk",
-        b"0 f enable 1",
-        b"0 f enable HK 1",
-        b"0 f enable hk 01",
-        b"0 f enable hk 1 1",
-        b"0 f interval hk 2",
-        b"0 f interval hk 2 0",
-        b"0 f interval hk 2 4097",
-        b"0 f interval hk 2 4 3",
-        b"0 f interval hk 2 4 2 8",
-        b"0 f create hk 9 interval 4",
-        b"0 f create hk 9 interval 4 simple",
-        b"0 f create hk 9 4 simple 1",
-        b"0 f create hk 9 simple 1",
-        b"0 f create hk 9 interval 0 simple 1",
-        b"0 f create hk 9 interval 4 simple 8",
-        b"0 f create hk 9 interval 4 array 3 1",
-        b"0 f create hk 9 interval 4 array 0 1",
-        b"0 f create hk 9 interval 4 array 2",
-        b"0 f create hk 9 interval 4 array",
-        b"0 f create hk 9 interval 4 array 2 1 simple 1",
-        b"0 f append hk 1",
-        b"0 f stat-report 2",
-        b"0 f stat-report",
-        b"0 f stat-enable 0",
-        b"0 f stat-add 4",
-        b"0 f stat-delete",
-        b"0 f stat-delete all 1",
-        b"0 f report-values 1 1",
-        b"0 f report-values 65536",
-        b"0 f set 1 5",
-        b"0 f set 7 65536",
-    ];
-    for line in lines {
-        assert!(rt; has_no_form(rt.alloc(), &tailoring, line));
+    for line in OTHER_LINES.lines() {
+        assert!(rt;
+            has_no_form(rt.alloc(), &tailoring, line.as_bytes()),
+            "{line}"
+        );
     }
+    assert!(rt; has_no_form(rt.alloc(), &tailoring, b"0 f stat-reset\r"));
+    assert!(rt; has_no_form(rt.alloc(), &tailoring, b"0 f stat-reset\n"));
+    assert!(rt; has_no_form(rt.alloc(), &tailoring, b"0 f stat-reset\xff"));
     Ok(())
 }
 
@@ -352,105 +349,44 @@ fn is_line_of_report(
     }
 }
 
-const ROW: [u8; 34] = [
-    0, 0, 0, 0, 0, 0, 0, 0, 0, 0, 0x20, 0x08, 1, 0, 2, 0, 0, 0, 2, 0xfd, 0, 0, 0, 0, 0, 0, 0xfc, 0,
-    0, 0, 0, 0x10, 0, 0xfc,
-];
-
-#[test]
-fn verifications_have_words(rt: HostRuntime) -> Result<(), Fail> {
-    let tailoring = builtin(rt.alloc())?;
-    let rows: [(&str, u64, u8, &[u8]); 9] = [
-        ("5 1.1 request 1864c000", 5, 1, &[0x18, 0x64, 0xc0, 0]),
-        (
-            "6 1.2 request 1864c000 code 6 detail 196616",
-            6,
-            2,
-            &[0x18, 0x64, 0xc0, 0, 0, 6, 0, 3, 0, 8],
-        ),
-        ("7 1.3 request 0864ffff", 7, 3, &[0x08, 0x64, 0xff, 0xff]),
-        (
-            "20483 1.4 request 1864c001 code 103 detail 0",
-            20483,
-            4,
-            &[0x18, 0x64, 0xc0, 1, 0, 103, 0, 0, 0, 0],
-        ),
-        (
-            "281474976710655 1.5 request 1864c00a step 255",
-            281_474_976_710_655,
-            5,
-            &[0x18, 0x64, 0xc0, 10, 255],
-        ),
-        (
-            "5 1.6 request 1864c000 step 2 code 102 detail 0",
-            5,
-            6,
-            &[0x18, 0x64, 0xc0, 0, 2, 0, 102, 0, 0, 0, 0],
-        ),
-        (
-            "28676 1.7 request 1864c000",
-            28676,
-            7,
-            &[0x18, 0x64, 0xc0, 0],
-        ),
-        (
-            "20484 1.8 request 1864c000 code 200 refused 2 refused 3",
-            20484,
-            8,
-            &[0x18, 0x64, 0xc0, 0, 0, 200, 2, 2, 3],
-        ),
-        (
-            "0 1.10 request 1864c000 code 1 detail 4294967295",
-            0,
-            10,
-            &[0x18, 0x64, 0xc0, 0, 0, 1, 255, 255, 255, 255],
-        ),
-    ];
-    for (line, tag, subtype, body) in rows {
-        assert!(rt;
-            is_line_of_report(rt.alloc(), &tailoring, line, tag, 1, subtype, body),
-            "{line}"
-        );
-    }
-    Ok(())
+/// Whether a row `LINE = TAG SERVICE SUBTYPE BODY` is right.
+fn is_report_row(alloc: Global, tailoring: &Tailoring, row: &str) -> Option<bool> {
+    let (line, told) = row.split_once(" = ")?;
+    let mut words = told.split(' ');
+    let tag = number(words.next())?;
+    let service = small_number(words.next())?;
+    let subtype = small_number(words.next())?;
+    let body = octets_in(alloc, words.next()?)?;
+    Some(is_line_of_report(alloc, tailoring, line, tag, service, subtype, &body))
 }
 
+const REPORTS: &str = "5 1.1 request 1864c000 = 5 1 1 1864c000
+6 1.2 request 1864c000 code 6 detail 196616 = 6 1 2 1864c000000600030008
+7 1.3 request 0864ffff = 7 1 3 0864ffff
+20483 1.4 request 1864c001 code 103 detail 0 = 20483 1 4 1864c001006700000000
+281474976710655 1.5 request 1864c00a step 255 = 281474976710655 1 5 1864c00aff
+5 1.6 request 1864c000 step 2 code 102 detail 0 = 5 1 6 1864c00002006600000000
+28676 1.7 request 1864c000 = 28676 1 7 1864c000
+20484 1.8 request 1864c000 code 200 refused 2 refused 3 = 20484 1 8 1864c00000c8020203
+0 1.10 request 1864c000 code 1 detail 4294967295 = 0 1 10 1864c0000001ffffffff
+36868 3.10 hk 2 enabled interval 4 simple 1 array 4 3 = 36868 3 10 020100040100010104010003
+9 3.12 diag 1 disabled interval 1 simple 4 5 = 9 3 12 01000001020004000500
+16385 3.25 hk 1 octets 2 = 16385 3 25 01002a
+16386 3.26 diag 1 octets 0 = 16386 3 26 01
+10 3.35 hk 1 enabled 4 3 disabled 2 = 10 3 35 020101000403000002
+11 3.36 diag 1 disabled 1 = 11 3 36 0101000001
+8200 4.2 rows 1 = 8200 4 2 00000000000000000000200801000200000002fd000000000000fc000000001000fc
+12 4.9 rows 2 = 12 4 9 0100040200010002
+8201 20.2 rows 1 = 8201 20 2 01000701f4";
+
 #[test]
-fn other_reports_have_words(rt: HostRuntime) -> Result<(), Fail> {
+fn reports_have_words(rt: HostRuntime) -> Result<(), Fail> {
     let tailoring = builtin(rt.alloc())?;
-    let rows: [(&str, u64, u8, u8, &[u8]); 9] = [
-        (
-            "36868 3.10 hk 2 enabled interval 4 simple 1 array 4 3",
-            36868,
-            3,
-            10,
-            &[2, 1, 0, 4, 1, 0, 1, 1, 4, 1, 0, 3],
-        ),
-        (
-            "9 3.12 diag 1 disabled interval 1 simple 4 5",
-            9,
-            3,
-            12,
-            &[1, 0, 0, 1, 2, 0, 4, 0, 5, 0],
-        ),
-        ("16385 3.25 hk 1 octets 2", 16385, 3, 25, &[1, 0, 42]),
-        ("16386 3.26 diag 1 octets 0", 16386, 3, 26, &[1]),
-        (
-            "10 3.35 hk 1 enabled 4 3 disabled 2",
-            10,
-            3,
-            35,
-            &[2, 1, 1, 0, 4, 3, 0, 0, 2],
-        ),
-        ("11 3.36 diag 1 disabled 1", 11, 3, 36, &[1, 1, 0, 0, 1]),
-        ("8200 4.2 rows 1", 8200, 4, 2, &ROW),
-        ("12 4.9 rows 2", 12, 4, 9, &[1, 0, 4, 2, 0, 1, 0, 2]),
-        ("8201 20.2 rows 1", 8201, 20, 2, &[1, 0, 7, 1, 0xf4]),
-    ];
-    for (line, tag, service, subtype, body) in rows {
-        assert!(rt;
-            is_line_of_report(rt.alloc(), &tailoring, line, tag, service, subtype, body),
-            "{line}"
+    for row in REPORTS.lines() {
+        assert_eq!(rt;
+            is_report_row(rt.alloc(), &tailoring, row),
+            Some(true),
+            "{row}"
         );
     }
     Ok(())

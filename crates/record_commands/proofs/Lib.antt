@@ -3,4 +3,3 @@ pub mod TrimLemmas
 pub mod ShowLemmas
 pub mod InputLemmas
 pub mod EncodeLemmas
-pub mod RequestLemmas

@@ -1,30 +1,25 @@
 -- The values of a decided report are the samples that the board took.
-use Rattle.std.proofs.Common.{◌≡◌, ℕ, zero, suc, ◌-◌, refl, sym, ◌∙◌, ap, subst, List, [], ◌∷◌, map, Option, Some, Ok, nat_lt}
+use Rattle.std.proofs.Common.{◌≡◌, ℕ, zero, suc, refl, sym, ◌∙◌, ap, subst, List, [], ◌∷◌, map, Some, nat_lt}
 use Rattle.std.specs.Prelude.{ℤ, zip, slice_get}
 use Rattle.std.specs.List.{AllZip}
 use Rattle.std.proofs.lemmas.Option.{same_Some, none-some}
-use Rattle.hk_base.specs.TailoringParts.{TailoringParts}
-use Rattle.hk_base.specs.Fit.{slot_of}
-use Rattle.hk_base.specs.Payload.{places}
 use Rattle.hk_base.specs.declared.types.Key.{Key}
 use Rattle.hk_base.specs.declared.types.Place.{Place}
-use Rattle.hk_base.specs.declared.types.Definition.{Definition}
 use Rattle.hk_base.specs.declared.types.Structure.{Structure}
 use Rattle.hk_base.proofs.Membership.{IsIn, IsIn-filter, IsIn-index, slice_get-IsIn, AllByRecursion-IsIn}
 use Rattle.sample_slots.proofs.PayloadLaws.{payload-read}
 use Rattle.st03_grammar.specs.declared.bodies.Report03.TheVariants as hk
-use Rattle.pus_messages.specs.Protocol.{readable, IsLawful}
-use Rattle.pus_messages.specs.declared.message.ReportBody.{ReportBody}
+use Rattle.pus_messages.specs.Protocol.{IsLawful}
 use Rattle.pus_messages.specs.declared.message.ReportBody.TheVariants.{Hk}
 use Rattle.hk_world.specs.Timelines.{tailoring, moments_before}
 use Rattle.hk_world.specs.Honest.{IsFiled, IsParameterReport}
-use Rattle.hk_world.specs.Worlds.{World, IsWorld, Reports, IsTrueValue, moments_of, world_state_at}
+use Rattle.hk_world.specs.Worlds.{World, IsWorld, Reports, moments_of}
 use Rattle.hk_world.specs.declared.moment.Moment.{Moment}
-use Rattle.ground_history.specs.Histories.{Kept}
+use Rattle.ground_history.specs.Histories.{Kept, tag_of}
 use Rattle.ground_history.specs.Bounds.{history_in}
 use Rattle.ground_history.specs.Attribution.{IsOfMoment}
 use Rattle.ground_history.proofs.EntryLemmas.{world-attributed}
-use Rattle.definition_intervals.specs.Soundness.{HasReport, DecidedValuesAreTrue, IsReadTruly, places_of}
+use Rattle.definition_intervals.specs.Soundness.{HasReport, KeptReportsWereMade, DecidedValuesAreTrue, IsReadTruly, places_of}
 use Rattle.definition_intervals.proofs.SoundLemmas.{report_made}
 use Rattle.definition_intervals.proofs.KnownWorlds.{protocol_lawful, verdicts_sound}
 
@@ -56,17 +51,22 @@ filed-before tag moments place value f =
     let there = IsIn-index f.1 moments (IsIn-filter (λ (m : Moment). nat_lt m.tag tag) f.1 moments below).0 in
     (there.0, f.1, there.1, f.3)
 
--- a kept parameter report is one of the timeline
-reported : (t : TailoringParts) (w : World) (key : Key) (tag : ℕ) (payload : List ℕ) → IsLawful w.session.protocol → IsWorld w → HasReport (history_in w) key tag payload
-    → Reports w tag (Hk (hk.Values key payload))
-reported t w key tag payload law world kept =
-    let k : Kept = kept.1 in
+-- a kept report is one of the timeline
+made : (w : World) (i : ℕ) (k : Kept) → IsLawful w.session.protocol → IsWorld w → slice_get (history_in w).kept i ≡ Some k → Reports w (tag_of k) k.report.body
+made w i k law world at =
     let all = (world-attributed w [] w.steps law world refl).kept in
-    let of : IsOfMoment w k = AllByRecursion-IsIn (IsOfMoment w) k (history_in w).kept all (slice_get-IsIn k (history_in w).kept kept.0 kept.2) in
-    let told = λ (b : ReportBody). readable (record { header = k.report.header; body = b }) in
-    let read : w.session.protocol.reception of.moment.packet ≡ told (Hk (hk.Values key payload)) =
-    ap (λ p. w.session.protocol.reception p) of.packet ∙ (of.read ∙ ap told kept.4) in
-    (of.place, of.moment, of.there, of.tag ∙ kept.3, (k.report.header, read, sym of.tag))
+    let of : IsOfMoment w k = AllByRecursion-IsIn (IsOfMoment w) k (history_in w).kept all (slice_get-IsIn k (history_in w).kept i at) in
+    (of.place, of.moment, of.there, of.tag, (k.report.header, ap (λ p. w.session.protocol.reception p) of.packet ∙ of.read, sym of.tag))
+
+pub reports_made : KeptReportsWereMade
+reports_made t w i k e world at = made w i k (protocol_lawful t w.session e) world at
+
+-- so is a kept parameter report
+reported : (w : World) (key : Key) (tag : ℕ) (payload : List ℕ) → IsLawful w.session.protocol → IsWorld w → HasReport (history_in w) key tag payload
+    → Reports w tag (Hk (hk.Values key payload))
+reported w key tag payload law world kept =
+    subst (λ n. Reports w n (Hk (hk.Values key payload))) kept.3
+    (subst (λ body. Reports w (tag_of kept.1) body) kept.4 (made w kept.0 kept.1 law world kept.2))
 
 -- the values of a report that was made under a definition
 under : (w : World) (key : Key) (tag : ℕ) (payload : List ℕ) → IsWorld w → Reports w tag (Hk (hk.Values key payload))
@@ -98,4 +98,4 @@ values_true t w key tag payload d e world kept decided =
     let found = (verdicts_sound t w key tag payload e world kept).decided d decided in
     let both : Some r.structure ≡ Some found.0 = sym r.is_there ∙ found.1 in
     let same : r.structure.def ≡ d = ap (λ (x : Structure). x.def) (same_Some r.structure found.0 both) ∙ found.2 in
-    subst (IsReadTruly w key tag payload) same (under w key tag payload world (reported t w key tag payload (protocol_lawful t w.session e) world kept) r)
+    subst (IsReadTruly w key tag payload) same (under w key tag payload world (reported w key tag payload (protocol_lawful t w.session e) world kept) r)

@@ -13,7 +13,7 @@ use Rattle.pus_messages.specs.Protocol.{Protocol}
 use Rattle.pus_messages.specs.Messages.{protocol}
 use Rattle.pus_messages.specs.declared.message.ReportBody.TheVariants.{Hk}
 use Rattle.hk_world.specs.Timelines.{tailoring}
-use Rattle.hk_world.specs.Worlds.{World, Step, IsWorld, Entry, IsTrueValue, world_state_at}
+use Rattle.hk_world.specs.Worlds.{World, Step, IsWorld, Entry, IsTrueValue, Reports, world_state_at}
 use Rattle.ground_history.specs.Histories.{History, Kept, tag_of, history_of}
 use Rattle.ground_history.specs.Bounds.{history_in}
 use Rattle.ground_history.specs.Evidence.{is_barred}
@@ -60,6 +60,12 @@ abbrev pub VerdictsAreSound : Type 0
 VerdictsAreSound =
     (t : TailoringParts) (w : World) (key : Key) (tag : ℕ) (payload : List ℕ)
     → w.session.protocol ≡ protocol t → IsWorld w → HasReport (history_in w) key tag payload → IsSound w key tag payload
+
+-- In each world each kept report is one that the board made, so its rows of statistics and its current values are true.
+abbrev pub KeptReportsWereMade : Type 0
+KeptReportsWereMade =
+    (t : TailoringParts) (w : World) (i : ℕ) (k : Kept)
+    → w.session.protocol ≡ protocol t → IsWorld w → slice_get (history_in w).kept i ≡ Some k → Reports w (tag_of k) k.report.body
 
 -- The payload of a report is read under a definition, as one value for each of its places, and each value is the sample that the board took there.
 pub record IsReadTruly (w : World) (key : Key) (tag : ℕ) (payload : List ℕ) (d : Definition) : Type 0 where

@@ -17,7 +17,7 @@ pub fn protocols()
     ensures names { (t : TailoringParts) → NoneTwice (protocol t) }
 {}
 
-/// A request of the grammar is read from its packet, and from no other octets.
+/// A request of the grammar is read from its packet, and from no other octets. The calls are the laws that it stands on.
 pub fn requests_are_spelled()
     ensures again { (t : TailoringParts) (r : Request) (octets : List ℕ) → IsFit t → AreOctets octets → IsRequestPacket t r octets → request_of t octets ≡ Ok r }
     ensures only { (t : TailoringParts) (r : Request) (octets : List ℕ) → AreOctets octets → request_of t octets ≡ Ok r → IsRequestPacket t r octets }
@@ -28,7 +28,7 @@ pub fn requests_are_spelled()
     st20_grammar::requests_are_spelled();
 }
 
-/// A report of the grammar is read from its packet, and from no other octets.
+/// A report of the grammar is read from its packet, and from no other octets. The calls are the laws that it stands on.
 pub fn reports_are_spelled()
     ensures again { (t : TailoringParts) (r : Report) (octets : List ℕ) → IsFit t → AreOctets octets → IsReportPacket t r octets → report_of t octets ≡ Ok r }
     ensures only { (t : TailoringParts) (r : Report) (octets : List ℕ) → AreOctets octets → report_of t octets ≡ Ok r → IsReportPacket t r octets }

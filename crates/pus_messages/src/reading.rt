@@ -31,6 +31,7 @@ pub fn read_request(
     ensures few { IfOk result (λ request. length (instructions request) ≤ 255) }
     ensures apart { IfOk result (λ request. NamesApart request.body) }
 {
+    // Laws: they say what the request is, and do nothing.
     requests_are_spelled();
     protocols();
     request_in(alloc, tailoring, bytes)
@@ -46,6 +47,7 @@ pub fn read_report(
     ensures gives { Gives (λ report. report) result (report_of tailoring.now bytes.now) }
     ensures found { IfOk result (λ report. IsReportPacket tailoring.now report bytes.now) }
 {
+    // A law: it says what the report is, and does nothing.
     reports_are_spelled();
     report_in(alloc, tailoring, bytes)
 }

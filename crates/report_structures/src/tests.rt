@@ -14,11 +14,6 @@ const FIRST: Key = Key {
     id: 1,
 };
 
-const SECOND: Key = Key {
-    kind: Kind::Housekeeping,
-    id: 2,
-};
-
 /// What the first instruction of a request makes of a structure.
 fn outcome(
     alloc: Global,
@@ -43,20 +38,31 @@ fn outcome(
     }
 }
 
-/// The structure that the first instruction of a request leaves.
-fn left(
+/// A structure that a test begins with: none, the first one of the tailoring, or that one disabled.
+#[derive(Clone, Copy, Drop)]
+enum Start {
+    Absent,
+    First,
+    Disabled,
+}
+
+/// What the first instruction of a request makes of a structure.
+fn changed(
     alloc: Global,
     tailoring: &Tailoring,
+    start: Start,
     subtype: u8,
     body: &[u8],
-    before: Option<&Structure>,
-) -> Option<Structure>
-    requires { IsFormedState tailoring.now (option_copied before) }
-    ensures { IsFormedState tailoring.now result }
+) -> Result<Option<Structure>, ApplyFault>
+    ensures { IfOk result (IsFormedState tailoring.now) }
 {
-    match outcome(alloc, tailoring, subtype, body, before) {
-        Ok(after) => after,
-        Err(_) => None,
+    match start {
+        Start::Absent => outcome(alloc, tailoring, subtype, body, None),
+        Start::First => outcome(alloc, tailoring, subtype, body, tailoring.boot(FIRST)),
+        Start::Disabled => match outcome(alloc, tailoring, 6, &[1, 1], tailoring.boot(FIRST))? {
+            Some(disabled) => outcome(alloc, tailoring, subtype, body, Some(&disabled)),
+            None => Ok(None),
+        },
     }
 }
 
@@ -64,50 +70,57 @@ fn left(
 fn refusal(
     alloc: Global,
     tailoring: &Tailoring,
+    start: Start,
     subtype: u8,
     body: &[u8],
-    before: Option<&Structure>,
-) -> Option<Refusal>
-    requires { IsFormedState tailoring.now (option_copied before) }
-{
-    match outcome(alloc, tailoring, subtype, body, before) {
+) -> Option<Refusal> {
+    match changed(alloc, tailoring, start, subtype, body) {
         Err(ApplyFault::Refused(refusal)) => Some(refusal),
+        _ => None,
+    }
+}
+
+/// Whether the structure that is left is enabled, and the size of its payload.
+fn left(
+    alloc: Global,
+    tailoring: &Tailoring,
+    start: Start,
+    subtype: u8,
+    body: &[u8],
+) -> Option<(bool, u32)> {
+    match changed(alloc, tailoring, start, subtype, body) {
+        Ok(Some(after)) => Some((after.enabled, tailoring.payload_size(&after.def))),
         _ => None,
     }
 }
 
 #[test]
 fn changes_are_refused(rt: HostRuntime) -> Result<(), Fail> {
-    let alloc = rt.alloc();
-    let tailoring = builtin(alloc)?;
-    let first = tailoring.boot(FIRST);
-    let second = tailoring.boot(SECOND);
-    let disabled = left(alloc, &tailoring, 6, &[1, 1], first);
-    let rows: [(u8, &[u8], Option<&Structure>, Refusal); 11] = [
-        (1, &[1, 0, 4, 1, 0, 1, 0], first, Refusal::Exists),
-        (3, &[1, 1], first, Refusal::Enabled),
-        (29, &[1, 1, 0, 2, 0], first, Refusal::Enabled),
-        (29, &[1, 1, 0, 1, 0], disabled.as_ref(), Refusal::Doubled(1)),
+    let tailoring = builtin(rt.alloc())?;
+    let wide = [9, 0, 255, 3, 0, 1, 0, 7, 0, 3, 1, 255, 1, 0, 6];
+    let rows: [(Start, u8, &[u8], Refusal); 9] = [
+        (Start::First, 1, &[1, 0, 4, 1, 0, 1, 0], Refusal::Exists),
+        (Start::First, 3, &[1, 1], Refusal::Enabled),
+        (Start::First, 29, &[1, 1, 0, 2, 0], Refusal::Enabled),
+        (Start::Disabled, 29, &[1, 1, 0, 1, 0], Refusal::Doubled(1)),
         (
+            Start::Disabled,
             29,
             &[1, 0, 1, 3, 1, 0, 10],
-            disabled.as_ref(),
             Refusal::BadRepetition(3, 4),
         ),
+        (Start::Absent, 1, &wide, Refusal::TooWide(1025)),
         (
+            Start::Absent,
             1,
-            &[9, 0, 255, 3, 0, 1, 0, 7, 0, 3, 1, 255, 1, 0, 6],
-            None,
-            Refusal::TooWide(1025),
+            &[9, 0, 4, 2, 0, 1, 0, 1, 0],
+            Refusal::Doubled(1),
         ),
-        (1, &[9, 0, 4, 2, 0, 1, 0, 1, 0], None, Refusal::Doubled(1)),
-        (3, &[1, 9], None, Refusal::Absent),
-        (29, &[9, 1, 0, 1, 0], None, Refusal::Absent),
-        (31, &[1, 9, 0, 4], None, Refusal::Absent),
-        (31, &[1, 2, 0, 6], second, Refusal::BadRepetition(4, 6)),
+        (Start::Absent, 3, &[1, 9], Refusal::Absent),
+        (Start::Absent, 31, &[1, 9, 0, 4], Refusal::Absent),
     ];
-    for (subtype, body, before, expected) in rows {
-        let found = refusal(alloc, &tailoring, subtype, body, before);
+    for (start, subtype, body, expected) in rows {
+        let found = refusal(rt.alloc(), &tailoring, start, subtype, body);
         assert_eq!(rt; found, Some(expected), "subtype {subtype}");
     }
     Ok(())
@@ -115,25 +128,23 @@ fn changes_are_refused(rt: HostRuntime) -> Result<(), Fail> {
 
 #[test]
 fn changes_are_made(rt: HostRuntime) -> Result<(), Fail> {
-    let alloc = rt.alloc();
-    let tailoring = builtin(alloc)?;
+    let tailoring = builtin(rt.alloc())?;
     let wide = [9, 0, 255, 2, 0, 1, 0, 7, 1, 255, 1, 0, 6];
-    let created = left(alloc, &tailoring, 1, &wide, None).ok_or("refused")?;
-    assert_eq!(rt; tailoring.payload_size(&created.def), 1024);
-    assert!(rt; !created.enabled);
-    let disabled = left(alloc, &tailoring, 6, &[1, 1], tailoring.boot(FIRST));
-    let more = [1, 1, 0, 2, 1, 2, 1, 0, 10];
-    let longer = left(alloc, &tailoring, 29, &more, disabled.as_ref());
-    let slower = left(alloc, &tailoring, 31, &[1, 1, 0, 6], longer.as_ref());
-    let after = left(alloc, &tailoring, 5, &[1, 1], slower.as_ref()).ok_or("refused")?;
-    assert!(rt; after.enabled);
-    assert_eq!(rt; after.def.interval, 6);
-    assert_eq!(rt; after.def.simple.as_slice(), [1u32, 2].as_slice());
-    for array in after.def.arrays.as_slice() {
-        assert_eq!(rt; array.repetition, 2);
-        assert_eq!(rt; array.params.as_slice(), [10u32].as_slice());
+    let rows: [(Start, u8, &[u8], (bool, u32)); 4] = [
+        (Start::Absent, 1, &wide, (false, 1024)),
+        (
+            Start::Disabled,
+            29,
+            &[1, 1, 0, 2, 1, 2, 1, 0, 10],
+            (false, 5),
+        ),
+        (Start::Disabled, 5, &[1, 1], (true, 2)),
+        (Start::First, 9, &[1, 1], (true, 2)),
+    ];
+    for (start, subtype, body, expected) in rows {
+        let found = left(rt.alloc(), &tailoring, start, subtype, body);
+        assert_eq!(rt; found, Some(expected), "subtype {subtype}");
     }
-    assert_eq!(rt; after.def.arrays.as_slice().len(), 1);
     Ok(())
 }
 

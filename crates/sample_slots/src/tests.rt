@@ -1,10 +1,18 @@
-ghost use Rattle.std.specs.Prelude.{◌≤◌, length};
+ghost use Rattle.std.specs.Prelude.{◌≡◌, ◌≤◌, length, None};
 
 use crate::{PayloadFault, Place, Window, place, place_count, read_payload, size};
-use hk_base::{Key, Kind, Tailoring, Value, builtin};
+use hk_base::{
+    BUILTIN_WIDTHS, Boot, Definition, Form, Items, Key, Kind, Memory, Param, Structure, SuperList,
+    Tailoring, Value, Widths, builtin,
+};
 use std::alloc::Global;
 use std::process::Abort;
 use std::test::Fail;
+
+const FIRST: Key = Key {
+    kind: Kind::Housekeeping,
+    id: 1,
+};
 
 const SECOND: Key = Key {
     kind: Kind::Housekeeping,
@@ -49,6 +57,69 @@ fn payloads_are_read(rt: HostRuntime) -> Result<(), Fail> {
     ];
     for (key, bytes, expected) in cases {
         check(&rt, alloc, &tailoring, key, bytes, expected)?;
+    }
+    Ok(())
+}
+
+const PACKED_WIDTHS: Widths = Widths {
+    packed: true,
+    ..BUILTIN_WIDTHS
+};
+
+/// A tailoring whose values have a few bits each.
+fn packed(alloc: Global) -> Result<Tailoring, Memory> {
+    let params = Vec::from_array(
+        alloc,
+        [
+            small(1, Form::Unsigned, 3),
+            small(2, Form::Signed, 5),
+            small(3, Form::Boolean, 1),
+            small(4, Form::Unsigned, 3),
+        ],
+    )?;
+    let array = SuperList {
+        repetition: 2,
+        params: Items::from_slice(alloc, &[4])?,
+    };
+    let def = Definition {
+        interval: 2,
+        simple: Items::from_slice(alloc, &[1, 2, 3])?,
+        arrays: Items::from_vec(Vec::from_array(alloc, [array])?),
+    };
+    let structure = Structure { def, enabled: true };
+    let key = FIRST;
+    let boots = Vec::from_array(alloc, [Boot { key, structure }])?;
+    Tailoring::new(
+        alloc,
+        PACKED_WIDTHS,
+        Items::from_vec(params),
+        Items::from_vec(boots),
+    )
+}
+
+/// A sensed parameter in so many bits of one octet.
+fn small(id: u32, form: Form, bits: u8) -> Param
+    ensures { result ≡ record { id = id; form = form; octets = 1; bits = bits; initial = None } }
+{
+    Param {
+        id,
+        form,
+        octets: 1,
+        bits,
+        initial: None,
+    }
+}
+
+#[test]
+fn packed_payloads_are_read(rt: HostRuntime) -> Result<(), Fail> {
+    let alloc = rt.alloc();
+    let tailoring = packed(alloc)?;
+    let cases: [(&[u8], Result<&[Value], PayloadFault>); 2] = [
+        (&[0xbd, 0x80, 0x40, 0xe0], Ok(&[5, -3, 1, 2, 7])),
+        (&[0xbd, 0x80, 0x40, 0xe1], Err(PayloadFault::Padding(2))),
+    ];
+    for (bytes, expected) in cases {
+        check(&rt, alloc, &tailoring, FIRST, bytes, expected)?;
     }
     Ok(())
 }

@@ -1,0 +1,14 @@
+pub mod TailLemmas
+pub mod NumberLemmas
+pub mod SplitLemmas
+pub mod LineLemmas
+pub mod SpelledOctets
+pub mod SpelledLists
+pub mod SpelledValues
+pub mod BodyFaults
+pub mod Lengths
+pub mod BodiesAgain
+pub mod WordsOfBodies
+pub mod LinesAgain
+pub mod OctetsAre
+pub mod LinesOnly

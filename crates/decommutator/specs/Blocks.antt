@@ -15,7 +15,7 @@ use Rattle.st04_grammar.specs.declared.bodies.StatReport.{StatReport}
 use Rattle.st04_grammar.specs.declared.bodies.Report04.{Report04}
 use Rattle.st04_grammar.specs.declared.bodies.Report04.TheVariants as stat
 use Rattle.st20_grammar.specs.declared.bodies.Setting.{Setting}
-use Rattle.pus_messages.specs.Words.{kind_word}
+use Rattle.message_words.specs.Words.{kind_word}
 use Rattle.pus_messages.specs.declared.message.ReportBody.{ReportBody}
 use Rattle.pus_messages.specs.declared.message.ReportBody.TheVariants.{Verify, Hk, Stat, Par}
 use Rattle.ground_history.specs.Histories.{Kept, History, tag_of}

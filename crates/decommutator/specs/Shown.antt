@@ -3,7 +3,7 @@ use Rattle.std.specs.Prelude.{ℕ, List, ◌++◌, flat_map, map, ◌&&◌, nat_
 use Rattle.std.specs.Fmt.{decimal}
 use Rattle.st01_reports.specs.declared.verification.Cause.{Cause}
 use Rattle.pus_messages.specs.Protocol.{Protocol, Reception, foreign, skipped, unread, readable}
-use Rattle.pus_messages.specs.Words.{request_text, report_text, type_word}
+use Rattle.message_words.specs.Words.{request_text, report_text, type_word}
 use Rattle.pus_messages.specs.declared.message.Request.{Request}
 use Rattle.session_record.specs.declared.entry.Entry.{Entry}
 use Rattle.session_record.specs.declared.entry.Entry.TheVariants.{Sent, Got, Line}

@@ -4,6 +4,5 @@ pub mod SpellingLemmas
 pub mod ReadingLemmas
 pub mod WritingLemmas
 pub mod ChangeLemmas
-mod WordRows
 pub mod FoundLemmas
 pub mod BoundLemmas

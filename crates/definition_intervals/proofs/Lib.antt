@@ -19,3 +19,4 @@ pub mod RecordLemmas
 pub mod KnownWorlds
 pub mod WorldGrowth
 pub mod WorldDecisions
+pub mod ValueLemmas

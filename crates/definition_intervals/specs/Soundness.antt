@@ -1,8 +1,11 @@
 -- What is to hold of verdicts in every world, and after every list of entries.
-use Rattle.std.specs.Prelude.{⊤, ◌≡◌, ◌≢◌, ℕ, List, ◌++◌, slice_get, Bool, true, ◌⊎◌, Some, IsTrue}
+use Rattle.std.specs.Prelude.{⊤, ◌≡◌, ◌≢◌, ℕ, ◌-◌, ℤ, List, ◌++◌, map, zip, slice_get, Bool, true, ◌⊎◌, Some, Ok, IsTrue}
 use Rattle.std.specs.List.{AllByRecursion}
 use Rattle.hk_base.specs.TailoringParts.{TailoringParts}
+use Rattle.hk_base.specs.Fit.{slot_of}
+use Rattle.hk_base.specs.Payload.{places, payload_read}
 use Rattle.hk_base.specs.declared.types.Key.{Key}
+use Rattle.hk_base.specs.declared.types.Place.{Place}
 use Rattle.hk_base.specs.declared.types.Definition.{Definition}
 use Rattle.hk_base.specs.declared.types.Structure.{Structure}
 use Rattle.st03_grammar.specs.declared.bodies.Report03.TheVariants as hk
@@ -10,7 +13,7 @@ use Rattle.pus_messages.specs.Protocol.{Protocol}
 use Rattle.pus_messages.specs.Messages.{protocol}
 use Rattle.pus_messages.specs.declared.message.ReportBody.TheVariants.{Hk}
 use Rattle.hk_world.specs.Timelines.{tailoring}
-use Rattle.hk_world.specs.Worlds.{World, Step, IsWorld, Entry, world_state_at}
+use Rattle.hk_world.specs.Worlds.{World, Step, IsWorld, Entry, IsTrueValue, Reports, world_state_at}
 use Rattle.ground_history.specs.Histories.{History, Kept, tag_of, history_of}
 use Rattle.ground_history.specs.Bounds.{history_in}
 use Rattle.ground_history.specs.Evidence.{is_barred}
@@ -28,6 +31,10 @@ HasReport h key tag payload =
 -- the verdict on a report in a world, with what the ground knows there
 abbrev pub verdict_in : World → Key → ℕ → List ℕ → Verdict
 verdict_in w key tag payload = verdict (tailoring w.session) (history_in w) key tag payload
+
+-- where a report with a tag has its samples from, under a definition
+abbrev pub places_of : World → ℕ → Definition → List Place
+places_of w tag d = places d (slot_of (tailoring w.session) tag - 1)
 
 -- the state at a report is possible from each opening
 abbrev pub IsContained : World → Key → ℕ → Type 0
@@ -53,6 +60,28 @@ abbrev pub VerdictsAreSound : Type 0
 VerdictsAreSound =
     (t : TailoringParts) (w : World) (key : Key) (tag : ℕ) (payload : List ℕ)
     → w.session.protocol ≡ protocol t → IsWorld w → HasReport (history_in w) key tag payload → IsSound w key tag payload
+
+-- In each world each kept report is one that the board made, so its rows of statistics and its current values are true.
+abbrev pub KeptReportsWereMade : Type 0
+KeptReportsWereMade =
+    (t : TailoringParts) (w : World) (i : ℕ) (k : Kept)
+    → w.session.protocol ≡ protocol t → IsWorld w → slice_get (history_in w).kept i ≡ Some k → Reports w (tag_of k) k.report.body
+
+-- The payload of a report is read under a definition, as one value for each of its places, and each value is the sample that the board took there.
+pub record IsReadTruly (w : World) (key : Key) (tag : ℕ) (payload : List ℕ) (d : Definition) : Type 0 where
+  pub values : List ℤ
+  pub read : payload_read (tailoring w.session) d payload ≡ Ok values
+  pub each_place : map (λ r. r.0) (zip (places_of w tag d) values) ≡ places_of w tag d
+  pub each_value : (row : ℕ) (place : Place) (value : ℤ) → slice_get (zip (places_of w tag d) values) row ≡ Some (place, value)
+      → IsTrueValue w key tag d.interval row place.param place.slot value
+
+-- In each world a kept report that is decided is read truly under its definition.
+abbrev pub DecidedValuesAreTrue : Type 0
+DecidedValuesAreTrue =
+    (t : TailoringParts) (w : World) (key : Key) (tag : ℕ) (payload : List ℕ) (d : Definition)
+    → w.session.protocol ≡ protocol t → IsWorld w → HasReport (history_in w) key tag payload
+    → verdict_in w key tag payload ≡ Decided d
+    → IsReadTruly w key tag payload d
 
 -- a request that is named is an open change of an opening
 abbrev pub IsOpenChange : List Opening → ℕ → Type 0

@@ -16,6 +16,7 @@ pub fn split_tc<'a>(
     requires size { length bytes.now ≤ 2 ^ 31 }
     ensures gives { Gives (λ x. (x.0, x.1.now)) result (split_command tailoring.now bytes.now) }
     ensures fits { IfOk result (λ x. IsCommand x.0) }
+    ensures left { IfOk result (λ x. length x.1.now ≤ length bytes.now) }
 {
     let checksum = tailoring.widths().tc_checksum;
     if let Some(fault) = packet_fault(bytes, 1, 11, checksum) {
@@ -40,6 +41,7 @@ pub fn split_tm<'a>(
     requires size { length bytes.now ≤ 2 ^ 31 }
     ensures gives { Gives (λ x. (x.0, x.1.now)) result (split_report tailoring.now bytes.now) }
     ensures fits { IfOk result (λ x. IsReport (packets.time_octets tailoring.now) x.0) }
+    ensures left { IfOk result (λ x. length x.1.now ≤ length bytes.now) }
 {
     let widths = tailoring.widths();
     let time = widths.coarse + widths.fine;

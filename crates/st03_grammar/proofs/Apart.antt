@@ -50,7 +50,7 @@ all_differ : (k : Key) (ks : List Key) → (IsIn k ks → ⊥) → AllByRecursio
 all_differ k [] apart = tt
 all_differ k (y ∷ ks) apart = (differs k y (λ e. apart (inl e)), all_differ k ks (λ i. apart (inr i)))
 
-distinct : (ks : List Key) → AreApart ks → IsDistinct key_eq ks
+pub distinct : (ks : List Key) → AreApart ks → IsDistinct key_eq ks
 unfolding IsDistinct
 distinct [] apart = tt
 distinct (k ∷ ks) apart = (all_differ k ks apart.0, distinct ks apart.1)

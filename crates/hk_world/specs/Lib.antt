@@ -3,3 +3,6 @@ pub mod Timelines
 pub mod Legal
 pub mod Honest
 pub mod Worlds
+pub mod Undisturbed
+pub mod Examples
+pub mod JournalTexts

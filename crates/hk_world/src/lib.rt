@@ -2,10 +2,15 @@
 //! and worlds.
 #![tactic(auto)]
 
-ghost use Rattle.std.specs.Prelude.{◌≡◌, List, ◌∷◌};
+ghost use Rattle.std.specs.Prelude.{◌≡◌, List, ◌∷◌, pos};
+ghost use Rattle.std.specs.List.{AllByRecursion};
+ghost use Rattle.hk_base.specs.declared.types.Kind.TheVariants.{Housekeeping};
+ghost use Rattle.st03_grammar.specs.Instructions.{key_of};
 ghost use Rattle.hk_world.specs.Legal.{IsLegal};
 ghost use Rattle.hk_world.specs.Honest.{IsHonest};
-ghost use Rattle.hk_world.specs.Worlds.{World, Step, IsWorld, AreDelivered, moments_of, deliveries_of};
+ghost use Rattle.hk_world.specs.Worlds.{World, Step, IsWorld, IsDelivered, IsTrueValue, moments_of, deliveries_of};
+ghost use Rattle.hk_world.specs.Undisturbed.{IsUndisturbed, AreDeliveredReports};
+ghost use Rattle.hk_world.specs.Examples.{reporting_world, commanded_world};
 
 mod journal;
 mod moment;
@@ -14,10 +19,22 @@ pub use journal::{Journal, MOST_MOMENTS};
 pub use moment::{Act, Moment};
 
 /// Laws of worlds. A prefix of a world is a world. The moments of a world are a legal and honest timeline. What was
-/// delivered are reports that the board made, in the order of their tags.
+/// delivered are packets that the board made, each honest. Where nothing is commanded, they are housekeeping reports, in the
+/// order of their tags.
 pub fn worlds()
     ensures prefix { (w : World) (step : Step) (earlier : List Step) → w.steps ≡ step ∷ earlier → IsWorld w → IsWorld (record w { steps = earlier }) }
     ensures legal { (w : World) → IsWorld w → IsLegal w.session (moments_of w.steps) }
     ensures honest { (w : World) → IsWorld w → IsHonest w.session (moments_of w.steps) }
-    ensures delivered { (w : World) → IsWorld w → AreDelivered w.session (moments_of w.steps) (deliveries_of w.steps) }
+    ensures delivered { (w : World) → IsWorld w → AllByRecursion (IsDelivered w.session (moments_of w.steps)) (deliveries_of w.steps) }
+    ensures undisturbed { (w : World) → IsWorld w → IsUndisturbed w → AreDeliveredReports w.session (moments_of w.steps) (deliveries_of w.steps) }
+{}
+
+/// There are worlds: one in which nothing is commanded, and one in which a request changes the interval of a structure
+/// before it is reported. A value of each is true.
+pub fn examples()
+    ensures reporting { IsWorld reporting_world }
+    ensures undisturbed { IsUndisturbed reporting_world }
+    ensures reported { IsTrueValue reporting_world (key_of Housekeeping 1) 4097 1 0 7 0 (pos 100) }
+    ensures commanded { IsWorld commanded_world }
+    ensures changed { IsTrueValue commanded_world (key_of Housekeeping 1) 8193 2 0 7 1 (pos 100) }
 {}

@@ -1,0 +1,21 @@
+mod Rows
+mod RecordRows
+mod WorldRows
+pub mod EqualityLemmas
+pub mod ChoiceLemmas
+pub mod NamedLemmas
+pub mod StateLemmas
+pub mod KnownFacts
+pub mod CandidateLemmas
+pub mod ContainmentLemmas
+pub mod VerdictLemmas
+pub mod WorldContainment
+pub mod SoundLemmas
+pub mod NamesLemmas
+pub mod GrowthLemmas
+pub mod PersistLemmas
+pub mod WorldPersists
+pub mod RecordLemmas
+pub mod KnownWorlds
+pub mod WorldGrowth
+pub mod WorldDecisions

@@ -1,5 +1,5 @@
 -- The change that a request makes of a structure is its first instruction on it, where that can change it.
-use Rattle.std.proofs.Common.{arith, ◌≡◌, refl, sym, ap, ◌∙◌, ℕ, zero, suc, ◌+◌, List, [], ◌∷◌, map, Bool, true, false, cond, Option, Some, None}
+use Rattle.std.proofs.Common.{arith, ◌≡◌, refl, sym, ap, ◌∙◌, ℕ, zero, suc, ◌+◌, List, [], ◌∷◌, map, Bool, true, false, cond, Option, Some, None, inl, inr, ◌⊎◌}
 use Rattle.std.specs.Prelude.{◌&&◌, slice_get, option_map, filter_map, if◌then◌else◌}
 use Rattle.std.specs.List.{AllByRecursion, enumerate_from, position, position_from, cons_option}
 use Rattle.std.specs.Option.{option_and_then}
@@ -11,9 +11,14 @@ use Rattle.st03_grammar.specs.Instructions.{StructureChange, structure_changes, 
 use Rattle.st03_grammar.specs.declared.bodies.Pair.{Pair}
 use Rattle.st03_grammar.specs.declared.bodies.Request03.{Request03}
 use Rattle.st03_grammar.specs.declared.bodies.Request03.TheVariants.{Create, Append, OnEach, Intervals}
-use Rattle.st04_grammar.specs.Instructions.{StatisticsChange}
-use Rattle.pus_messages.specs.Instructions.{Instruction, on_structure, on_statistics, on_structures}
+use Rattle.st04_grammar.specs.Instructions.{StatisticsChange, statistics_changes}
+use Rattle.st04_grammar.specs.declared.bodies.Request04.{Request04}
+use Rattle.st20_grammar.specs.declared.bodies.Request20.{Request20}
+use Rattle.st20_grammar.specs.declared.bodies.Request20.TheVariants.{Report, Set}
+use Rattle.pus_messages.specs.Instructions.{Instruction, on_structure, on_statistics, on_structures, body_instructions}
 use Rattle.pus_messages.specs.Changes.{change_on, numbered_change, first_of_list, change_among}
+use Rattle.pus_messages.specs.declared.message.RequestBody.{RequestBody}
+use Rattle.pus_messages.specs.declared.message.RequestBody.TheVariants.{Stat, Par}
 
 -- the first instruction on a structure, with its number
 abbrev found : Key → ℕ → List (Key × StructureChange) → Option (ℕ × StructureChange)
@@ -24,6 +29,12 @@ found key n (c ∷ cs) = if key_eq c.0 key then Some (n, c.1) else found key (n 
 abbrev pub kept : Option (ℕ × StructureChange) → Option (ℕ × StructureChange)
 kept None = None
 kept (Some x) = if changes x.1 then Some x else None
+
+pub kept-some : (x : ℕ × StructureChange) → changes x.1 ≡ true → kept (Some x) ≡ Some x
+kept-some x e = rw e refl
+
+pub kept-none : (x : ℕ × StructureChange) → changes x.1 ≡ false → kept (Some x) ≡ None
+kept-none x e = rw e refl
 
 -- all instructions can change their structures, or none can
 abbrev AllChange : Bool → List (Key × StructureChange) → Type 0
@@ -41,28 +52,29 @@ none_changes key n (c ∷ cs) all = go (key_eq c.0 key) (changes c.1) all.0 ∙ 
     go true b e = rw e refl
     go false b e = refl
 
+none_kept : (key : Key) (n : ℕ) (cs : List (Key × StructureChange)) → AllChange false cs → kept (found key n cs) ≡ None
+none_kept key n [] all = refl
+none_kept key n (c ∷ cs) all = go (key_eq c.0 key) (none_kept key (n + 1) cs all.1)
+  where
+    go : (k : Bool) → kept (found key (n + 1) cs) ≡ None → kept (if k then Some (n, c.1) else found key (n + 1) cs) ≡ None
+    go true more = rw all.0 refl
+    go false more = more
+
 -- the first change among instructions is the first instruction on the structure, where all or none can change theirs
 first_change : (key : Key) (b : Bool) (n : ℕ) (cs : List (Key × StructureChange)) → AllChange b cs
     → first_of_list (filter_map (numbered_change key) (enumerate_from n (on_structures cs))) ≡ kept (found key n cs)
 first_change key b n [] all = refl
-first_change key true n (c ∷ cs) all = go (key_eq c.0 key)
+first_change key true n (c ∷ cs) all = go (key_eq c.0 key) (first_change key true (n + 1) cs all.1)
   where
     rest : List (ℕ × StructureChange)
     rest = filter_map (numbered_change key) (enumerate_from (n + 1) (on_structures cs))
 
-    go : (k : Bool) → first_of_list (cons_option (option_map (λ change. (n, change)) (if k && changes c.1 then Some c.1 else None)) rest)
+    go : (k : Bool) → first_of_list rest ≡ kept (found key (n + 1) cs)
+        → first_of_list (cons_option (option_map (λ change. (n, change)) (if k && changes c.1 then Some c.1 else None)) rest)
         ≡ kept (if k then Some (n, c.1) else found key (n + 1) cs)
-    go true = rw all.0 refl
-    go false = first_change key true (n + 1) cs all.1
-first_change key false n (c ∷ cs) all = ap first_of_list (none_changes key n (c ∷ cs) all) ∙ sym (none_kept n (c ∷ cs) all)
-  where
-    none_kept : (m : ℕ) (xs : List (Key × StructureChange)) → AllChange false xs → kept (found key m xs) ≡ None
-    none_kept m [] all = refl
-    none_kept m (x ∷ xs) all = go (key_eq x.0 key)
-      where
-        go : (k : Bool) → kept (if k then Some (m, x.1) else found key (m + 1) xs) ≡ None
-        go true = rw all.0 refl
-        go false = none_kept (m + 1) xs all.1
+    go true more = rw all.0 refl
+    go false more = more
+first_change key false n (c ∷ cs) all = ap first_of_list (none_changes key n (c ∷ cs) all) ∙ sym (none_kept key n (c ∷ cs) all)
 
 -- the instruction at a place, with its number
 abbrev numbered_at : List (Key × StructureChange) → ℕ → Option (ℕ × StructureChange)
@@ -71,14 +83,15 @@ numbered_at cs i = option_map (λ c. (i + 1, c.1)) (slice_get cs i)
 found_from : (key : Key) (all : List (Key × StructureChange)) (k : ℕ) (cs : List (Key × StructureChange)) → ((i : ℕ) → slice_get all (k + i) ≡ slice_get cs i)
     → option_and_then (numbered_at all) (position_from (λ c. key_eq c.0 key) k cs) ≡ found key (k + 1) cs
 found_from key all k [] there = refl
-found_from key all k (c ∷ cs) there = go (key_eq c.0 key)
+found_from key all k (c ∷ cs) there = go (key_eq c.0 key) (found_from key all (k + 1) cs (λ i. ap (λ n. slice_get all n) (omega arith) ∙ there (suc i)))
   where
     here : slice_get all k ≡ Some c
     here = ap (λ n. slice_get all n) (omega arith) ∙ there 0
 
-    go : (b : Bool) → option_and_then (numbered_at all) (cond b (Some k) (position_from (λ x. key_eq x.0 key) (k + 1) cs)) ≡ (if b then Some (k + 1, c.1) else found key (k + 1 + 1) cs)
-    go true = rw here refl
-    go false = found_from key all (k + 1) cs (λ i. ap (λ n. slice_get all n) (omega arith) ∙ there (suc i))
+    go : (b : Bool) → option_and_then (numbered_at all) (position_from (λ x. key_eq x.0 key) (k + 1) cs) ≡ found key (k + 1 + 1) cs
+        → option_and_then (numbered_at all) (cond b (Some k) (position_from (λ x. key_eq x.0 key) (k + 1) cs)) ≡ (if b then Some (k + 1, c.1) else found key (k + 1 + 1) cs)
+    go true more = rw here refl
+    go false more = more
 
 -- the first instruction on a structure
 pub instruction_found : (r : Request03) (key : Key) → instruction_on r key ≡ found key 1 (structure_changes r)
@@ -112,6 +125,15 @@ pub change_is : (r : Request03) (key : Key) → change_among key (on_structures 
 change_is r key = first_change key (can_change r) 1 (structure_changes r) (all_change r) ∙ ap kept (sym (instruction_found r key))
 
 -- no instruction on the statistics changes a structure
-pub no_change : (key : Key) (n : ℕ) (cs : List StatisticsChange) → filter_map (numbered_change key) (enumerate_from n (map on_statistics cs)) ≡ []
+no_change : (key : Key) (n : ℕ) (cs : List StatisticsChange) → filter_map (numbered_change key) (enumerate_from n (map on_statistics cs)) ≡ []
 no_change key n [] = refl
 no_change key n (c ∷ cs) = no_change key (n + 1) cs
+
+-- a request of another service changes no structure
+pub other_service : (key : Key) (b : RequestBody) → ((x : Request04) × b ≡ Stat x) ⊎ ((x : Request20) × b ≡ Par x) → None ≡ change_among key (body_instructions b)
+other_service key b (inl p) = sym (ap (λ x. change_among key (body_instructions x)) p.1 ∙ ap first_of_list (no_change key 1 (statistics_changes p.0)))
+other_service key b (inr p) = sym (ap (λ x. change_among key (body_instructions x)) p.1 ∙ only_values p.0)
+  where
+    only_values : (r : Request20) → change_among key (body_instructions (Par r)) ≡ None
+    only_values (Report ids) = refl
+    only_values (Set settings) = refl

@@ -1,8 +1,5 @@
-use Rattle.std.proofs.Common.{◌≡◌, sym, ap}
-use Rattle.st04_grammar.specs.Instructions.{statistics_changes}
-use Rattle.pus_messages.specs.Changes.{first_of_list, change_by}
-use Rattle.pus_messages.proofs.ChangeLemmas.{no_change}
+use Rattle.pus_messages.proofs.ChangeLemmas.{other_service}
 use Rattle.pus_messages.proofs.instruction.changes_on.Goals as goal
 
 pub returns-in-Stat : goal.returns-in-Stat
-returns-in-Stat c = ?
+returns-in-Stat c = other_service c.args.key c.args.request.now.body c.in-Stat.is

@@ -8,5 +8,6 @@ pub returns : goal.returns
 returns c =
     let t = c.args.tailoring.now in
     let message = c.args.report.now in
-    let same : c.deref.result.now ≡ report_body_octets t message.body = cc in
+    let same : c.deref.result.now ≡ report_body_octets t message.body =
+    c.deref.ensures.value ∙ (c.in_ok-write_report_body.ensures ∙ ap (λ xs. xs ++ report_body_octets t message.body) c.new-body.ensures.items) in
     written (report_body_octets t message.body) c.deref.result.now (joining.report_octets t message.header) c.join_tm.result same c.join_tm.ensures

@@ -8,5 +8,6 @@ pub returns : goal.returns
 returns c =
     let t = c.args.tailoring.now in
     let message = c.args.request.now in
-    let same : c.deref.result.now ≡ request_body_octets t message.body = cc in
+    let same : c.deref.result.now ≡ request_body_octets t message.body =
+    c.deref.ensures.value ∙ (c.in_ok-write_request_body.ensures ∙ ap (λ xs. xs ++ request_body_octets t message.body) c.new-body.ensures.items) in
     written (request_body_octets t message.body) c.deref.result.now (joining.command_octets t message.header) c.join_tc.result same c.join_tc.ensures

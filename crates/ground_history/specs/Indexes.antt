@@ -1,6 +1,6 @@
 -- What is kept up to date of the evidence, so that it is found without a look at all kept packets.
 use Rattle.std.specs.Prelude.{◌≡◌, ℕ, suc, ◌+◌, ◌-◌, ◌^◌, ◌<◌, List, [], ◌∷◌, map, filter, max, min, nat_lt, nat_le, Bool, true, false, not, ◌&&◌, ◌||◌, ◌==◌, Option, Some, None, IfSome, unwrap_or, IsSome, if◌then◌else◌}
-use Rattle.std.specs.List.{list_any, AllByRecursion}
+use Rattle.std.specs.List.{list_any, All}
 use Rattle.std.specs.Option.{option_map_or, option_map}
 use Rattle.std.specs.Map.{lookup}
 use Rattle.std.specs.BTreeMap.{is_at}
@@ -108,8 +108,8 @@ pub record HasRoom (e : Evidence) (request : ℕ) (report : Verification) : Type
   pub low : IfSome (place_before request report) (λ place. HasStep e.low place)
   pub high : IfSome (place_after request report) (λ place. HasStep e.high (mirrored place))
   pub shown : HasShown e.shown request
-  pub done : AllByRecursion (HasMark e.done request) (done_steps report)
-  pub refused : AllByRecursion (HasMark e.refused request) (refused_steps report)
+  pub done : All (HasMark e.done request) (done_steps report)
+  pub refused : All (HasMark e.refused request) (refused_steps report)
 
 -- two indexes say the same
 pub record SaysSame (old new : Evidence) : Type 0 where

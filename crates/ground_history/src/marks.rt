@@ -1,5 +1,5 @@
-ghost use Rattle.std.specs.Prelude.{◌≡◌, ℕ, ◌||◌, ◌&&◌, ◌==◌, OnOk};
-ghost use Rattle.std.specs.List.{AllByRecursion, list_any};
+ghost use Rattle.std.specs.Prelude.{◌≡◌, ℕ, false, All, ◌||◌, ◌&&◌, ◌==◌, OnOk};
+ghost use Rattle.std.specs.List.{list_any};
 ghost use Rattle.ground_history.specs.Indexes.{is_marked, HasMark};
 
 use hk_base::Memory;
@@ -43,25 +43,42 @@ impl Marks {
     /// Makes a place for each instruction, so that `mark` takes no memory.
     pub(crate) fn make_room(&mut self, request: u64, steps: &[u32]) -> Result<(), Memory>
         ensures marks { (k step : ℕ) → is_marked self.new k step ≡ is_marked self.old k step }
-        ensures room { OnOk result (AllByRecursion (HasMark self.new request) steps.now) }
+        ensures room { OnOk result (All (HasMark self.new request) steps.now) }
     {
         for step in steps {
-            if !self.marks.contains_key(&(request, *step)) {
-                self.marks.insert((request, *step), false)?;
-            }
+            self.make_place(request, *step)?;
         }
         Ok(())
     }
 
     /// Marks instructions that have a place.
     pub(crate) fn mark(&mut self, request: u64, steps: &[u32])
-        requires { AllByRecursion (HasMark self.old request) steps.now }
+        requires { All (HasMark self.old request) steps.now }
         ensures { (k step : ℕ) → is_marked self.new k step ≡ (is_marked self.old k step || (k == request && list_any (λ s. s == step) steps.now)) }
     {
         for step in steps {
-            let Ok(_) = self.marks.insert((request, *step), true) else {
-                unreachable!();
-            };
+            self.mark_one(request, *step);
         }
+    }
+
+    fn make_place(&mut self, request: u64, step: u32) -> Result<(), Memory>
+        ensures marks { (k s : ℕ) → is_marked self.new k s ≡ is_marked self.old k s }
+        ensures others { (k s : ℕ) → HasMark self.old k s → HasMark self.new k s }
+        ensures room { OnOk result (HasMark self.new request step) }
+    {
+        if !self.marks.contains_key(&(request, step)) {
+            self.marks.insert((request, step), false)?;
+        }
+        Ok(())
+    }
+
+    fn mark_one(&mut self, request: u64, step: u32)
+        requires { HasMark self.old request step }
+        ensures marks { (k s : ℕ) → is_marked self.new k s ≡ (is_marked self.old k s || (k == request && step == s)) }
+        ensures others { (k s : ℕ) → HasMark self.old k s → HasMark self.new k s }
+    {
+        let Ok(_) = self.marks.insert((request, step), true) else {
+            unreachable!();
+        };
     }
 }

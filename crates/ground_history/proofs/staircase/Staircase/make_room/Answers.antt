@@ -7,10 +7,10 @@ use Rattle.ground_history.proofs.staircase.Staircase.make_room.Goals as goal
 pub invariant_of-self-2 : goal.invariant_of-self-2
 invariant_of-self-2 c =
     room-rising c.args.place c.height-height.result c.self.inside.steps.entries c.insert.new.self.entries c.insert.ensures.was_ordered c.self.invariant
-    c.height-height.ensures c.in_ok-insert.ensures.entries
+    (subst (λ s. c.height-height.result ≡ height_at s c.args.place) (sym c.self.view_is) c.height-height.ensures) c.in_ok-insert.ensures.entries
 
 pub returns-clause-heights : goal.returns-clause-heights
 returns-clause-heights c k =
     rw (← c.self.view_is)
     (room-height c.args.place c.height-height.result c.self.inside.steps.entries c.insert.new.self.entries c.insert.ensures.was_ordered c.self.invariant
-    c.height-height.ensures c.in_ok-insert.ensures.entries k)
+    (subst (λ s. c.height-height.result ≡ height_at s c.args.place) (sym c.self.view_is) c.height-height.ensures) c.in_ok-insert.ensures.entries k)

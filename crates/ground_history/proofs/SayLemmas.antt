@@ -1,6 +1,6 @@
 -- The indexes say what the kept packets show, with each packet that is kept.
 use Rattle.std.proofs.Common.{arith, ◌≡◌, ℕ, suc, ◌+◌, ◌-◌, ◌^◌, ◌<◌, ◌≤◌, refl, sym, ◌∙◌, ap, subst, List, [], ◌∷◌, map, max, min, Bool, true, false, nat_lt, cond, Option, Some, None}
-use Rattle.std.proofs.lemmas.Bool.{leb-true, leb-false, ltb-true, ltb-false}
+use Rattle.std.proofs.lemmas.Bool.{leb-true, leb-false, le-leb, lt-leb, ltb-true, ltb-false, lt-ltb}
 use Rattle.std.proofs.lemmas.Bool.Decides.{nat_tests}
 use Rattle.std.specs.Prelude.{filter, nat_le, ◌&&◌, ◌||◌, ◌==◌, if◌then◌else◌}
 use Rattle.std.specs.List.{list_any}
@@ -85,7 +85,7 @@ greatest-step test k ks = go (test k)
 record IsReport (x : Kept) (tag request : ℕ) (report : Verification) : Type 0 where
   pub number : x.number ≡ Some request
   pub body : x.report.body ≡ Verify report
-  pub tag : tag_of x ≡ tag
+  pub stamped : tag_of x ≡ tag
 
 -- it verifies where its report and its number pass
 verifies-is : (x : Kept) (tag request : ℕ) (report : Verification) → IsReport x tag request report → (test : Verification → Bool) (numbers : ℕ → Bool)
@@ -107,18 +107,233 @@ before-by request k (v.Completed id) = grind (arith, nat_tests)
 before-by request k (v.Incomplete id code steps) = grind (arith, nat_tests)
 before-by request k (v.NotRouted id cause) = grind (arith, nat_tests)
 
+after-start : (request k : ℕ) → ((nat_le k request && false) || (nat_lt k request && true)) ≡ option_map_or (λ p. nat_le k p) (if request == 0 then None else Some (request - 1)) false
+after-start request k = go (request == 0) refl
+  where
+    go : (b : Bool) → (request == 0) ≡ b → ((nat_le k request && false) || (nat_lt k request && true)) ≡ option_map_or (λ p. nat_le k p) (if b then None else Some (request - 1)) false
+    go true e = grind (arith, nat_tests, e)
+    go false e = grind (arith, nat_tests, e)
+
 -- whether it stands behind all of a request
 after-by : (request k : ℕ) (report : Verification)
     → ((nat_le k request && is_completion report) || (nat_lt k request && is_start report)) ≡ option_map_or (λ p. nat_le k p) (place_after request report) false
 after-by request k (v.Accepted id) = grind (arith, nat_tests)
 after-by request k (v.Refused id cause) = grind (arith, nat_tests)
-after-by request k (v.Started id) = start request k
-  where
-    start : (request k : ℕ) → ((nat_le k request && false) || (nat_lt k request && true)) ≡ option_map_or (λ p. nat_le k p) (if request == 0 then None else Some (request - 1)) false
-    start request k = ?
-after-by request k (v.NotStarted id cause) = ?
+after-by request k (v.Started id) = after-start request k
+after-by request k (v.NotStarted id cause) = after-start request k
 after-by request k (v.Step id step) = grind (arith, nat_tests)
 after-by request k (v.StepFailed id step cause) = grind (arith, nat_tests)
 after-by request k (v.Completed id) = grind (arith, nat_tests)
 after-by request k (v.Incomplete id code steps) = grind (arith, nat_tests)
 after-by request k (v.NotRouted id cause) = grind (arith, nat_tests)
+
+either-bools : (a b c d : Bool) → a ≡ b → c ≡ d → (a || c) ≡ (b || d)
+either-bools a b c d e f = rw (e, f) refl
+
+comes-before-is : (x : Kept) (tag request k : ℕ) (report : Verification) → IsReport x tag request report → comes_before k x ≡ option_map_or (λ p. nat_le p k) (place_before request report) false
+comes-before-is x tag request k report is =
+    either-bools _ _ _ _
+    (either-bools _ _ _ _ (verifies-is x tag request report is is_acceptance (λ j. nat_le j k)) (verifies-is x tag request report is is_start (λ j. nat_le j k)))
+    (verifies-is x tag request report is is_completion (λ j. nat_lt j k))
+    ∙ before-by request k report
+
+comes-after-is : (x : Kept) (tag request k : ℕ) (report : Verification) → IsReport x tag request report → comes_after k x ≡ option_map_or (λ p. nat_le k p) (place_after request report) false
+comes-after-is x tag request k report is =
+    either-bools _ _ _ _ (verifies-is x tag request report is is_completion (λ j. nat_le k j)) (verifies-is x tag request report is is_start (λ j. nat_lt k j))
+    ∙ after-by request k report
+
+low-step : (place : Option ℕ) (tag k : ℕ) (steps : List (ℕ × ℕ)) → height_at (with_step place tag steps) k ≡ max (if option_map_or (λ p. nat_le p k) place false then tag else 0) (height_at steps k)
+low-step None tag k steps = omega arith
+low-step (Some p) tag k steps = refl
+
+kept-low : (x : Kept) (tag request : ℕ) (report : Verification) (kept : List Kept) (old new : List (ℕ × ℕ)) → IsReport x tag request report
+    → ((k : ℕ) → height_at old k ≡ greatest (tags (comes_before k) kept)) → ((k : ℕ) → height_at new k ≡ height_at (with_step (place_before request report) tag old) k)
+    → (k : ℕ) → height_at new k ≡ greatest (tags (comes_before k) (insert_kept x kept))
+kept-low x tag request report kept old new is was more k =
+    more k
+    ∙ (low-step (place_before request report) tag k old
+    ∙ (ap (λ b. max (if b then tag else 0) (height_at old k)) (sym (comes-before-is x tag request k report is))
+    ∙ (ap (λ n. max (if comes_before k x then tag else 0) n) (was k)
+    ∙ (ap (λ n. max (if comes_before k x then n else 0) (greatest (tags (comes_before k) kept))) (sym is.stamped)
+    ∙ (sym (greatest-step (comes_before k) x kept) ∙ sym (greatest-insert_kept (comes_before k) x kept))))))
+
+mirrored-le : (p k : ℕ) → k < 2 ^ 64 → nat_le (mirrored p) (mirrored k) ≡ nat_le k p
+mirrored-le p k lt = go (nat_le k p) refl
+  where
+    go : (b : Bool) → nat_le k p ≡ b → nat_le (mirrored p) (mirrored k) ≡ b
+    go true e = let le = leb-true k p e in le-leb (mirrored p) (mirrored k) (omega (arith, le))
+    go false e = let gt = leb-false k p e in lt-leb (mirrored p) (mirrored k) (omega (arith, gt, lt))
+
+high-step : (place : Option ℕ) (height k : ℕ) (steps : List (ℕ × ℕ)) → k < 2 ^ 64
+    → height_at (with_step (option_map mirrored place) height steps) (mirrored k) ≡ max (if option_map_or (λ p. nat_le k p) place false then height else 0) (height_at steps (mirrored k))
+high-step None height k steps lt = omega arith
+high-step (Some p) height k steps lt = ap (λ b. max (if b then height else 0) (height_at steps (mirrored k))) (mirrored-le p k lt)
+
+tag-of-height : (b : Bool) (tag : ℕ) → tag < 2 ^ 64 → tag_at_height (if b then 2 ^ 64 - tag else 0) ≡ (if b then Some tag else None)
+tag-of-height true tag lt = let pos : nat_lt 0 (2 ^ 64 - tag) ≡ true = lt-ltb 0 (2 ^ 64 - tag) (omega (arith, lt)) in rw pos (let e : 2 ^ 64 - (2 ^ 64 - tag) ≡ tag = omega (arith, lt) in ap (λ n. Some n) e)
+tag-of-height false tag lt = refl
+
+tag-of-max : (a b : ℕ) → tag_at_height (max a b) ≡ lower (tag_at_height a) (tag_at_height b)
+tag-of-max a b = go (nat_lt 0 a) refl (nat_lt 0 b) refl (nat_lt 0 (max a b)) refl
+  where
+    go : (x : Bool) → nat_lt 0 a ≡ x → (y : Bool) → nat_lt 0 b ≡ y → (z : Bool) → nat_lt 0 (max a b) ≡ z
+        → (if z then Some (2 ^ 64 - max a b) else None) ≡ lower (if x then Some (2 ^ 64 - a) else None) (if y then Some (2 ^ 64 - b) else None)
+    go true e true f true g = let is : 2 ^ 64 - max a b ≡ min (2 ^ 64 - a) (2 ^ 64 - b) = omega arith in ap (λ n. Some n) is
+    go true e false f true g = let none = ltb-false 0 b f in let is : 2 ^ 64 - max a b ≡ 2 ^ 64 - a = omega (arith, none) in ap (λ n. Some n) is
+    go false e true f true g = let none = ltb-false 0 a e in let is : 2 ^ 64 - max a b ≡ 2 ^ 64 - b = omega (arith, none) in ap (λ n. Some n) is
+    go false e false f true g = let n = ltb-false 0 a e in let m = ltb-false 0 b f in let p = ltb-true 0 (max a b) g in absurd (omega (arith, n, m, p))
+    go true e y f false g = let p = ltb-true 0 a e in let n = ltb-false 0 (max a b) g in absurd (omega (arith, n, p))
+    go false e true f false g = let p = ltb-true 0 b f in let n = ltb-false 0 (max a b) g in absurd (omega (arith, n, p))
+    go false e false f false g = refl
+
+kept-high : (x : Kept) (tag request : ℕ) (report : Verification) (kept : List Kept) (old new : List (ℕ × ℕ)) → IsReport x tag request report → tag < 2 ^ 64
+    → ((k : ℕ) → k < 2 ^ 64 → tag_at_height (height_at old (mirrored k)) ≡ least (tags (comes_after k) kept))
+    → ((k : ℕ) → height_at new k ≡ height_at (with_step (option_map mirrored (place_after request report)) (2 ^ 64 - tag) old) k)
+    → (k : ℕ) → k < 2 ^ 64 → tag_at_height (height_at new (mirrored k)) ≡ least (tags (comes_after k) (insert_kept x kept))
+kept-high x tag request report kept old new is small was more k lt =
+    ap tag_at_height (more (mirrored k) ∙ high-step (place_after request report) (2 ^ 64 - tag) k old lt)
+    ∙ (tag-of-max _ _
+    ∙ (ap (λ o. lower o (tag_at_height (height_at old (mirrored k)))) (tag-of-height _ tag small)
+    ∙ (ap (λ o. lower (if option_map_or (λ p. nat_le k p) (place_after request report) false then Some tag else None) o) (was k lt)
+    ∙ (ap (λ b. lower (if b then Some tag else None) (least (tags (comes_after k) kept))) (sym (comes-after-is x tag request k report is))
+    ∙ (ap (λ n. lower (if comes_after k x then Some n else None) (least (tags (comes_after k) kept))) (sym is.stamped)
+    ∙ (sym (least-step (comes_after k) x kept) ∙ sym (least-insert_kept (comes_after k) x kept)))))))
+
+begins-is : (x : Kept) (tag request k : ℕ) (report : Verification) → IsReport x tag request report → begins k x ≡ (is_begun_report (Verify report) && nat_le k request)
+begins-is x tag request k report is =
+    ap (λ b. is_begun_report b && option_map_or (λ j. nat_le k j) x.number false) is.body ∙ ap (λ o. is_begun_report (Verify report) && option_map_or (λ j. nat_le k j) o false) is.number
+
+begun-step : (b : Bool) (k request begun : ℕ) → nat_lt k (if b then max (request + 1) begun else begun) ≡ ((b && nat_le k request) || nat_lt k begun)
+begun-step true k request begun = grind (arith, nat_tests)
+begun-step false k request begun = refl
+
+kept-begun : (x : Kept) (tag request : ℕ) (report : Verification) (kept : List Kept) (old new : ℕ) → IsReport x tag request report
+    → ((k : ℕ) → nat_lt k old ≡ list_any (begins k) kept) → new ≡ (if is_begun_report (Verify report) then max (request + 1) old else old)
+    → (k : ℕ) → nat_lt k new ≡ list_any (begins k) (insert_kept x kept)
+kept-begun x tag request report kept old new is was more k =
+    ap (λ n. nat_lt k n) more
+    ∙ (begun-step (is_begun_report (Verify report)) k request old
+    ∙ (either-bools _ _ _ _ (sym (begins-is x tag request k report is)) (was k) ∙ sym (any-insert_kept (begins k) x kept)))
+
+same-number : (a b : ℕ) → (a == b) ≡ (b == a)
+same-number a b = grind (arith, nat_tests)
+
+-- whether one more report on a request, or an earlier one, passes
+kept-on : (x : Kept) (tag request : ℕ) (report : Verification) (kept : List Kept) → IsReport x tag request report → (test : Verification → Bool) (k : ℕ)
+    → list_any (is_on test k) (insert_kept x kept) ≡ (list_any (is_on test k) kept || (k == request && test report))
+kept-on x tag request report kept is test k =
+    any-insert_kept (is_on test k) x kept
+    ∙ (ap (λ b. b || list_any (is_on test k) kept) (verifies-is x tag request report is test (λ j. j == k) ∙ ap (λ b. b && test report) (same-number request k))
+    ∙ flipped (k == request && test report) (list_any (is_on test k) kept))
+  where
+    flipped : (a b : Bool) → (a || b) ≡ (b || a)
+    flipped true true = refl
+    flipped true false = refl
+    flipped false true = refl
+    flipped false false = refl
+
+same-shown : (a b c d e p q r s t : Bool) → a ≡ p → b ≡ q → c ≡ r → d ≡ s → e ≡ t
+    → (let x : Shown = record { accepted = a; barred = b; unstarted = c; started = d; completed = e } in x) ≡ record { accepted = p; barred = q; unstarted = r; started = s; completed = t }
+same-shown a b c d e p q r s t f g h i j = rw (f, g, h, i, j) refl
+
+shown-step : (b : Bool) (s r : Shown)
+    → (if b then either_shown s r else s)
+    ≡ record {
+        accepted = s.accepted || (b && r.accepted);
+        barred = s.barred || (b && r.barred);
+        unstarted = s.unstarted || (b && r.unstarted);
+        started = s.started || (b && r.started);
+        completed = s.completed || (b && r.completed);
+      }
+shown-step true s r = refl
+shown-step false s r = sym (same-shown _ _ _ _ _ _ _ _ _ _ (or_false s.accepted) (or_false s.barred) (or_false s.unstarted) (or_false s.started) (or_false s.completed))
+  where
+    or_false : (a : Bool) → (a || false) ≡ a
+    or_false true = refl
+    or_false false = refl
+
+kept-shown : (x : Kept) (tag request : ℕ) (report : Verification) (kept : List Kept) (old new : List (ℕ × Shown)) → IsReport x tag request report
+    → ((k : ℕ) → shown_at old k ≡ shown_by kept k)
+    → ((k : ℕ) → shown_at new k ≡ (if k == request then either_shown (shown_at old k) (shown_of report) else shown_at old k))
+    → (k : ℕ) → shown_at new k ≡ shown_by (insert_kept x kept) k
+kept-shown x tag request report kept old new is was more k =
+    more k
+    ∙ (ap (λ s. if k == request then either_shown s (shown_of report) else s) (was k)
+    ∙ (shown-step (k == request) (shown_by kept k) (shown_of report)
+    ∙ sym (same-shown _ _ _ _ _ _ _ _ _ _ (on shows_accepted) (on shows_barred) (on shows_unstarted) (on is_started) (on is_completion))))
+  where
+    on : (test : Verification → Bool) → list_any (is_on test k) (insert_kept x kept) ≡ (list_any (is_on test k) kept || (k == request && test report))
+    on test = kept-on x tag request report kept is test k
+
+-- what the indexes say with one more verification report
+pub says-kept : (old new : Evidence) (kept : List Kept) (x : Kept) (tag request : ℕ) (report : Verification) → x.number ≡ Some request → x.report.body ≡ Verify report → tag_of x ≡ tag → tag < 2 ^ 64
+    → Says old kept → SaysMore old new tag request report → Says new (insert_kept x kept)
+says-kept old new kept x tag request report number body tag_is small says more =
+    let is : IsReport x tag request report = record { number = number; body = body; stamped = tag_is } in
+    record {
+      low = kept-low x tag request report kept old.low new.low is says.low more.low;
+      high = kept-high x tag request report kept old.high new.high is small says.high more.high;
+      begun = kept-begun x tag request report kept old.begun new.begun is says.begun more.begun;
+      shown = kept-shown x tag request report kept old.shown new.shown is says.shown more.shown;
+      done = λ k step.
+          more.done k step
+          ∙ (ap (λ b. b || (k == request && list_any (λ s. s == step) (done_steps report))) (says.done k step)
+          ∙ sym (kept-on x tag request report kept is (λ r. list_any (λ s. s == step) (done_steps r)) k));
+      refused = λ k step.
+          more.refused k step
+          ∙ (ap (λ b. b || (k == request && list_any (λ s. s == step) (refused_steps report))) (says.refused k step)
+          ∙ sym (kept-on x tag request report kept is (λ r. list_any (λ s. s == step) (refused_steps r)) k));
+    }
+
+-- indexes that say the same
+pub says-same : (old new : Evidence) (kept : List Kept) → SaysSame old new → Says old kept → Says new kept
+says-same old new kept same says =
+    record {
+      low = λ k. same.low k ∙ says.low k;
+      high = λ k lt. ap tag_at_height (same.high (mirrored k)) ∙ says.high k lt;
+      begun = λ k. ap (λ n. nat_lt k n) same.begun ∙ says.begun k;
+      shown = λ k. same.shown k ∙ says.shown k;
+      done = λ k step. same.done k step ∙ says.done k step;
+      refused = λ k step. same.refused k step ∙ says.refused k step;
+    }
+
+-- ---- a packet that verifies nothing
+
+unverified : (x : Kept) → x.number ≡ None → (test : Verification → Bool) (numbers : ℕ → Bool) → verifies test numbers x ≡ false
+unverified x e test numbers = ap (λ o. option_map_or numbers o false && passes test x.report.body) e
+
+unverified-any : (x : Kept) (kept : List Kept) → x.number ≡ None → (test : Verification → Bool) (numbers : ℕ → Bool)
+    → list_any (verifies test numbers) (insert_kept x kept) ≡ list_any (verifies test numbers) kept
+unverified-any x kept e test numbers = any-insert_kept (verifies test numbers) x kept ∙ ap (λ b. b || list_any (verifies test numbers) kept) (unverified x e test numbers)
+
+pub says-other : (e : Evidence) (kept : List Kept) (x : Kept) → x.number ≡ None → Says e kept → Says e (insert_kept x kept)
+says-other e kept x none says =
+    record {
+      low = λ k. says.low k ∙ sym (greatest-insert_kept (comes_before k) x kept ∙ (greatest-step (comes_before k) x kept ∙ (ap (λ b. max (if b then tag_of x else 0) (greatest (tags (comes_before k) kept))) (before k) ∙ omega arith)));
+      high = λ k lt. says.high k lt ∙ sym (least-insert_kept (comes_after k) x kept ∙ (least-step (comes_after k) x kept ∙ ap (λ b. lower (tag_if b x) (least (tags (comes_after k) kept))) (after k)));
+      begun = λ k. says.begun k ∙ sym (any-insert_kept (begins k) x kept ∙ ap (λ b. b || list_any (begins k) kept) (begin k));
+      shown = λ k.
+          says.shown k
+          ∙ sym (same-shown _ _ _ _ _ _ _ _ _ _ (other shows_accepted k) (other shows_barred k) (other shows_unstarted k) (other is_started k) (other is_completion k));
+      done = λ k step. says.done k step ∙ sym (other (λ r. list_any (λ s. s == step) (done_steps r)) k);
+      refused = λ k step. says.refused k step ∙ sym (other (λ r. list_any (λ s. s == step) (refused_steps r)) k);
+    }
+  where
+    other : (test : Verification → Bool) (k : ℕ) → list_any (is_on test k) (insert_kept x kept) ≡ list_any (is_on test k) kept
+    other test k = unverified-any x kept none test (λ j. j == k)
+
+    before : (k : ℕ) → comes_before k x ≡ false
+    before k =
+        either-bools _ _ _ _
+        (either-bools _ _ _ _ (unverified x none is_acceptance (λ j. nat_le j k)) (unverified x none is_start (λ j. nat_le j k)))
+        (unverified x none is_completion (λ j. nat_lt j k))
+
+    after : (k : ℕ) → comes_after k x ≡ false
+    after k = either-bools _ _ _ _ (unverified x none is_completion (λ j. nat_le k j)) (unverified x none is_start (λ j. nat_lt k j))
+
+    nothing : (b : Bool) → (b && false) ≡ false
+    nothing true = refl
+    nothing false = refl
+
+    begin : (k : ℕ) → begins k x ≡ false
+    begin k = ap (λ o. is_begun_report x.report.body && option_map_or (λ j. nat_le k j) o false) none ∙ nothing (is_begun_report x.report.body)

@@ -157,6 +157,16 @@ kept-low x tag request report kept old new is was more k =
     ∙ (ap (λ n. max (if comes_before k x then n else 0) (greatest (tags (comes_before k) kept))) (sym is.stamped)
     ∙ (sym (greatest-step (comes_before k) x kept) ∙ sym (greatest-insert_kept (comes_before k) x kept))))))
 
+small-low : (tag request k : ℕ) (report : Verification) (old new : List (ℕ × ℕ)) → tag < 2 ^ 64 → ((k : ℕ) → height_at old k < 2 ^ 64)
+    → ((k : ℕ) → height_at new k ≡ height_at (with_step (place_before request report) tag old) k) → height_at new k < 2 ^ 64
+small-low tag request k report old new lt was more =
+    let e = more k ∙ low-step (place_before request report) tag k old in
+    go (option_map_or (λ p. nat_le p k) (place_before request report) false) e
+  where
+    go : (b : Bool) → height_at new k ≡ max (if b then tag else 0) (height_at old k) → height_at new k < 2 ^ 64
+    go true e = let low = was k in omega (arith, e, low, lt)
+    go false e = let low = was k in omega (arith, e, low)
+
 mirrored-le : (p k : ℕ) → k < 2 ^ 64 → nat_le (mirrored p) (mirrored k) ≡ nat_le k p
 mirrored-le p k lt = go (nat_le k p) refl
   where
@@ -272,6 +282,7 @@ says-kept old new kept x tag request report number body tag_is small says more =
     let is : IsReport x tag request report = record { number = number; body = body; stamped = tag_is } in
     record {
       low = kept-low x tag request report kept old.low new.low is says.low more.low;
+      small = λ k. small-low tag request k report old.low new.low small says.small more.low;
       high = kept-high x tag request report kept old.high new.high is small says.high more.high;
       begun = kept-begun x tag request report kept old.begun new.begun is says.begun more.begun;
       shown = kept-shown x tag request report kept old.shown new.shown is says.shown more.shown;
@@ -290,6 +301,7 @@ pub says-same : (old new : Evidence) (kept : List Kept) → SaysSame old new →
 says-same old new kept same says =
     record {
       low = λ k. same.low k ∙ says.low k;
+      small = λ k. let e = same.low k in let lt = says.small k in omega (arith, e, lt);
       high = λ k lt. ap tag_at_height (same.high (mirrored k)) ∙ says.high k lt;
       begun = λ k. ap (λ n. nat_lt k n) same.begun ∙ says.begun k;
       shown = λ k. same.shown k ∙ says.shown k;
@@ -310,6 +322,7 @@ pub says-other : (e : Evidence) (kept : List Kept) (x : Kept) → x.number ≡ N
 says-other e kept x none says =
     record {
       low = λ k. says.low k ∙ sym (greatest-insert_kept (comes_before k) x kept ∙ (greatest-step (comes_before k) x kept ∙ (ap (λ b. max (if b then tag_of x else 0) (greatest (tags (comes_before k) kept))) (before k) ∙ omega arith)));
+      small = says.small;
       high = λ k lt. says.high k lt ∙ sym (least-insert_kept (comes_after k) x kept ∙ (least-step (comes_after k) x kept ∙ ap (λ b. lower (tag_if b x) (least (tags (comes_after k) kept))) (after k)));
       begun = λ k. says.begun k ∙ sym (any-insert_kept (begins k) x kept ∙ ap (λ b. b || list_any (begins k) kept) (begin k));
       shown = λ k.

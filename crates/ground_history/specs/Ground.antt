@@ -1,13 +1,16 @@
 -- What contracts see of a history, and how its calls answer.
-use Rattle.std.specs.Prelude.{◌≡◌, ℕ, ◌+◌, ◌-◌, ◌%◌, ◌<◌, List, [], ◌∷◌, take, length, map, ⊤, Bool, true, false, not, ◌&&◌, ◌||◌, ◌==◌, nat_lt, nat_le, Option, Some, None, IfSome, Result, Ok, Err, slice_get, if◌then◌else◌}
+use Rattle.std.specs.Prelude.{◌≡◌, ℕ, ◌+◌, ◌-◌, ◌%◌, ◌<◌, ◌≤◌, List, [], ◌∷◌, take, length, map, ⊤, Bool, true, false, not, ◌&&◌, ◌||◌, ◌==◌, nat_lt, nat_le, Option, Some, None, IfSome, Result, Ok, Err, slice_get, if◌then◌else◌}
 use Rattle.std.specs.List.{AllByRecursion}
 use Rattle.hk_base.specs.Fields.{number_of}
 use Rattle.hk_base.specs.declared.types.RequestId.{RequestId}
 use Rattle.hk_base.specs.TailoringParts.{TailoringParts}
 use Rattle.pus_packet.specs.declared.header.TcHeader.{TcHeader}
 use Rattle.pus_messages.specs.Messages.{protocol}
-use Rattle.ground_history.specs.Histories.{Sent, Kept, History, is_own, is_known_begun, sent_short, sent_long, tag_of}
-use Rattle.pus_messages.specs.Protocol.{Reception, foreign, skipped, unread, readable}
+use Rattle.ground_history.specs.Histories.{Sent, Kept, History, is_own, is_known_begun, sent_short, sent_long, tag_of, history_with_got, history_with_report}
+use Rattle.hk_base.specs.declared.types.Memory.{Memory}
+use Rattle.pus_messages.specs.declared.message.Report.{Report}
+use Rattle.ground_history.specs.declared.answer.GotKind.{GotKind}
+use Rattle.pus_messages.specs.Protocol.{Protocol, Reception, foreign, skipped, unread, readable}
 use Rattle.ground_history.specs.declared.reception.Received.{Received}
 use Rattle.ground_history.specs.declared.reception.Received.TheVariants as received
 use Rattle.ground_history.specs.declared.answer.SentFault.{SentFault}
@@ -28,6 +31,16 @@ IsAnswer wanted (Ok x) = wanted ≡ Ok x
 IsAnswer wanted (Err fault.Memory) = ⊤
 IsAnswer wanted (Err given) = wanted ≡ Err given
 
+-- what is known after octets were received and so answered
+abbrev pub got_result : Protocol → History → List ℕ → Result GotKind Memory → History
+got_result p h packet (Ok kind) = history_with_got h packet (p.reception packet)
+got_result p h packet (Err m) = h
+
+-- what is known after a report was read and so answered
+abbrev pub report_result : History → List ℕ → Report → Result GotKind Memory → History
+report_result h packet r (Ok kind) = history_with_report h packet r kind
+report_result h packet r (Err m) = h
+
 -- the count of a request packet with these headers, if it is of the tailoring's process and source
 abbrev pub own_count : TailoringParts → Option TcHeader → Result ℕ SentFault
 own_count t None = Err fault.BadRequest
@@ -45,6 +58,10 @@ is_room_for h number = if h.long then nat_lt number 8191 || is_known_begun h (nu
 -- the count in the first four octets of a packet is its number, as far as 14 bits tell it
 abbrev pub IsCounted : ℕ → Sent → Type 0
 IsCounted number request = number_of (take 4 request.packet) % 16384 ≡ number % 16384
+
+-- a packet has this count in its first four octets
+abbrev pub IsCountOf : ℕ → List ℕ → Type 0
+IsCountOf count packet = (4 ≤ length packet) × (number_of (take 4 packet) % 16384 ≡ count)
 
 -- each request, from this number on, has its number's count
 abbrev pub AreCounted : ℕ → List Sent → Type 0

@@ -156,6 +156,7 @@ begins k r = is_begun_report r.report.body && option_map_or (λ j. nat_le k j) r
 -- the indexes say what the kept packets show
 pub record Says (e : Evidence) (kept : List Kept) : Type 0 where
   pub low : (k : ℕ) → height_at e.low k ≡ greatest (map tag_of (filter (comes_before k) kept))
+  pub small : (k : ℕ) → height_at e.low k < 2 ^ 64
   pub high : (k : ℕ) → k < 2 ^ 64 → tag_at_height (height_at e.high (mirrored k)) ≡ least (map tag_of (filter (comes_after k) kept))
   pub begun : (k : ℕ) → nat_lt k e.begun ≡ list_any (begins k) kept
   pub shown : (k : ℕ) → shown_at e.shown k ≡ shown_by kept k

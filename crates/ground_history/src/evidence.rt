@@ -46,6 +46,14 @@ impl Evidence {
         }
     }
 
+    /// The greatest tag of a report that stands before all that is executed of a request; 0 where there is none.
+    pub(crate) fn low(&self, request: u64) -> u64
+        requires { height_at self.now.low request < 2 ^ 64 }
+        ensures { result ≡ height_at self.now.low request }
+    {
+        self.low.height(request) as u64
+    }
+
     /// The tag below which all of a request is executed, if one is known.
     pub(crate) fn high(&self, request: u64) -> Option<u64>
         ensures { result ≡ tag_at_height (height_at self.now.high (indexes.mirrored request)) }

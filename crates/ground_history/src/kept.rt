@@ -27,6 +27,16 @@ impl Model for KeptPacket {
 }
 
 impl KeptPacket {
+    pub(crate) fn new(packet: Octets, report: Report, number: Option<u64>) -> KeptPacket
+        ensures { result ≡ record { packet = packet; report = report; number = number } }
+    {
+        KeptPacket {
+            packet,
+            report,
+            number,
+        }
+    }
+
     pub(crate) fn tag(&self) -> u64
         ensures { result ≡ tag_of self.now }
     {

@@ -1,7 +1,7 @@
 ghost use Rattle.std.specs.Prelude.{◌≡◌, ◌<◌, ◌≤◌, ◌^◌, ◌++◌, ◌∷◌, [], OnOk, OnErr, IfSome, length, slice_get, bytes_eq};
 ghost use Rattle.std.specs.Option.{option_copied};
 ghost use Rattle.ground_history.specs.Histories.{last_number};
-ghost use Rattle.ground_history.specs.Ground.{IsCounted, is_verified_by};
+ghost use Rattle.ground_history.specs.Ground.{AreCounted, IsCounted, is_verified_by};
 
 use hk_base::{Memory, Octets, RequestId, get_uint};
 use pus_messages::Request;
@@ -103,6 +103,7 @@ impl Requests {
     pub(crate) fn len(&self) -> u64
         ensures len { result ≡ length self.now }
         ensures small { result < 2 ^ 63 }
+        ensures counted { AreCounted 0 self.now }
     {
         self.requests.len() as u64
     }
@@ -133,7 +134,10 @@ impl Requests {
         while rounds > 0 {
             rounds -= 1;
             let number = count + COUNTS * rounds;
-            if self.requests[number as usize].is_verified_by(long, id, tag) {
+            let Some(request) = self.get(number) else {
+                unreachable!();
+            };
+            if request.is_verified_by(long, id, tag) {
                 return Some(number);
             }
         }

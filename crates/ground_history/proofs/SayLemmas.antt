@@ -225,6 +225,10 @@ kept-begun x tag request report kept old new is was more k =
     ∙ (begun-step (is_begun_report (Verify report)) k request old
     ∙ (either-bools _ _ _ _ (sym (begins-is x tag request k report is)) (was k) ∙ sym (any-insert_kept (begins k) x kept)))
 
+reach-more : (b : Bool) (request old new : ℕ) → request < 2 ^ 63 → old ≤ 2 ^ 63 → new ≡ (if b then max (request + 1) old else old) → new ≤ 2 ^ 63
+reach-more true request old new lt le e = omega (arith, lt, le, e)
+reach-more false request old new lt le e = omega (arith, le, e)
+
 same-number : (a b : ℕ) → (a == b) ≡ (b == a)
 same-number a b = grind (arith, nat_tests)
 
@@ -276,15 +280,16 @@ kept-shown x tag request report kept old new is was more k =
     on test = kept-on x tag request report kept is test k
 
 -- what the indexes say with one more verification report
-pub says-kept : (old new : Evidence) (kept : List Kept) (x : Kept) (tag request : ℕ) (report : Verification) → x.number ≡ Some request → x.report.body ≡ Verify report → tag_of x ≡ tag → tag < 2 ^ 64
+pub says-kept : (old new : Evidence) (kept : List Kept) (x : Kept) (tag request : ℕ) (report : Verification) → x.number ≡ Some request → x.report.body ≡ Verify report → tag_of x ≡ tag → tag < 2 ^ 64 → request < 2 ^ 63
     → Says old kept → SaysMore old new tag request report → Says new (insert_kept x kept)
-says-kept old new kept x tag request report number body tag_is small says more =
+says-kept old new kept x tag request report number body tag_is small near says more =
     let is : IsReport x tag request report = record { number = number; body = body; stamped = tag_is } in
     record {
       low = kept-low x tag request report kept old.low new.low is says.low more.low;
       small = λ k. small-low tag request k report old.low new.low small says.small more.low;
       high = kept-high x tag request report kept old.high new.high is small says.high more.high;
       begun = kept-begun x tag request report kept old.begun new.begun is says.begun more.begun;
+      reach = reach-more (is_begun_report (Verify report)) request old.begun new.begun near says.reach more.begun;
       shown = kept-shown x tag request report kept old.shown new.shown is says.shown more.shown;
       done = λ k step.
           more.done k step
@@ -304,6 +309,7 @@ says-same old new kept same says =
       small = λ k. let e = same.low k in let lt = says.small k in omega (arith, e, lt);
       high = λ k lt. ap tag_at_height (same.high (mirrored k)) ∙ says.high k lt;
       begun = λ k. ap (λ n. nat_lt k n) same.begun ∙ says.begun k;
+      reach = let e = same.begun in let le = says.reach in omega (arith, e, le);
       shown = λ k. same.shown k ∙ says.shown k;
       done = λ k step. same.done k step ∙ says.done k step;
       refused = λ k step. same.refused k step ∙ says.refused k step;
@@ -311,20 +317,27 @@ says-same old new kept same says =
 
 -- ---- a packet that verifies nothing
 
-unverified : (x : Kept) → x.number ≡ None → (test : Verification → Bool) (numbers : ℕ → Bool) → verifies test numbers x ≡ false
-unverified x e test numbers = ap (λ o. option_map_or numbers o false && passes test x.report.body) e
+-- no test of verification reports passes
+record IsQuiet (x : Kept) : Type 0 where
+  pub verifies : (test : Verification → Bool) (numbers : ℕ → Bool) → verifies test numbers x ≡ false
+  pub begins : (k : ℕ) → begins k x ≡ false
 
-unverified-any : (x : Kept) (kept : List Kept) → x.number ≡ None → (test : Verification → Bool) (numbers : ℕ → Bool)
-    → list_any (verifies test numbers) (insert_kept x kept) ≡ list_any (verifies test numbers) kept
-unverified-any x kept e test numbers = any-insert_kept (verifies test numbers) x kept ∙ ap (λ b. b || list_any (verifies test numbers) kept) (unverified x e test numbers)
+or-false : (b c : Bool) → b ≡ false → (b || c) ≡ c
+or-false true c e = cc
+or-false false c e = refl
 
-pub says-other : (e : Evidence) (kept : List Kept) (x : Kept) → x.number ≡ None → Says e kept → Says e (insert_kept x kept)
-says-other e kept x none says =
+nothing : (b : Bool) → (b && false) ≡ false
+nothing true = refl
+nothing false = refl
+
+says-other : (e : Evidence) (kept : List Kept) (x : Kept) → IsQuiet x → Says e kept → Says e (insert_kept x kept)
+says-other e kept x quiet says =
     record {
       low = λ k. says.low k ∙ sym (greatest-insert_kept (comes_before k) x kept ∙ (greatest-step (comes_before k) x kept ∙ (ap (λ b. max (if b then tag_of x else 0) (greatest (tags (comes_before k) kept))) (before k) ∙ omega arith)));
       small = says.small;
       high = λ k lt. says.high k lt ∙ sym (least-insert_kept (comes_after k) x kept ∙ (least-step (comes_after k) x kept ∙ ap (λ b. lower (tag_if b x) (least (tags (comes_after k) kept))) (after k)));
-      begun = λ k. says.begun k ∙ sym (any-insert_kept (begins k) x kept ∙ ap (λ b. b || list_any (begins k) kept) (begin k));
+      begun = λ k. says.begun k ∙ sym (any-insert_kept (begins k) x kept ∙ or-false (begins k x) (list_any (begins k) kept) (quiet.begins k));
+      reach = says.reach;
       shown = λ k.
           says.shown k
           ∙ sym (same-shown _ _ _ _ _ _ _ _ _ _ (other shows_accepted k) (other shows_barred k) (other shows_unstarted k) (other is_started k) (other is_completion k));
@@ -333,20 +346,49 @@ says-other e kept x none says =
     }
   where
     other : (test : Verification → Bool) (k : ℕ) → list_any (is_on test k) (insert_kept x kept) ≡ list_any (is_on test k) kept
-    other test k = unverified-any x kept none test (λ j. j == k)
+    other test k = any-insert_kept (is_on test k) x kept ∙ or-false (is_on test k x) (list_any (is_on test k) kept) (quiet.verifies test (λ j. j == k))
 
     before : (k : ℕ) → comes_before k x ≡ false
     before k =
         either-bools _ _ _ _
-        (either-bools _ _ _ _ (unverified x none is_acceptance (λ j. nat_le j k)) (unverified x none is_start (λ j. nat_le j k)))
-        (unverified x none is_completion (λ j. nat_lt j k))
+        (either-bools _ _ _ _ (quiet.verifies is_acceptance (λ j. nat_le j k)) (quiet.verifies is_start (λ j. nat_le j k)))
+        (quiet.verifies is_completion (λ j. nat_lt j k))
 
     after : (k : ℕ) → comes_after k x ≡ false
-    after k = either-bools _ _ _ _ (unverified x none is_completion (λ j. nat_le k j)) (unverified x none is_start (λ j. nat_lt k j))
+    after k = either-bools _ _ _ _ (quiet.verifies is_completion (λ j. nat_le k j)) (quiet.verifies is_start (λ j. nat_lt k j))
 
-    nothing : (b : Bool) → (b && false) ≡ false
-    nothing true = refl
-    nothing false = refl
+-- a packet without a number
+pub says-unnumbered : (e : Evidence) (x : Kept) → x.number ≡ None → (kept : List Kept) → Says e kept → Says e (insert_kept x kept)
+says-unnumbered e x none kept says =
+    says-other e kept x
+    (record {
+      verifies = λ test numbers. ap (λ o. option_map_or numbers o false && passes test x.report.body) none;
+      begins = λ k. ap (λ o. is_begun_report x.report.body && option_map_or (λ j. nat_le k j) o false) none ∙ nothing (is_begun_report x.report.body);
+    })
+    says
 
-    begin : (k : ℕ) → begins k x ≡ false
-    begin k = ap (λ o. is_begun_report x.report.body && option_map_or (λ j. nat_le k j) o false) none ∙ nothing (is_begun_report x.report.body)
+-- a packet that is no verification report
+abbrev pub IsOther : ReportBody → Type 0
+IsOther (Verify report) = ⊥
+IsOther _ = Unit {0}
+
+other-passes : (body : ReportBody) → IsOther body → (test : Verification → Bool) → passes test body ≡ false
+other-passes (Verify report) o test = absurd o
+other-passes (Hk report) o test = refl
+other-passes (Stat report) o test = refl
+other-passes (Par report) o test = refl
+
+other-begins : (body : ReportBody) → IsOther body → is_begun_report body ≡ false
+other-begins (Verify report) o = absurd o
+other-begins (Hk report) o = refl
+other-begins (Stat report) o = refl
+other-begins (Par report) o = refl
+
+pub says-unverified : (e : Evidence) (x : Kept) → IsOther x.report.body → (kept : List Kept) → Says e kept → Says e (insert_kept x kept)
+says-unverified e x o kept says =
+    says-other e kept x
+    (record {
+      verifies = λ test numbers. ap (λ b. option_map_or numbers x.number false && b) (other-passes x.report.body o test) ∙ nothing (option_map_or numbers x.number false);
+      begins = λ k. ap (λ b. b && option_map_or (λ j. nat_le k j) x.number false) (other-begins x.report.body o);
+    })
+    says

@@ -1,12 +1,12 @@
 -- What contracts see of a history, and how its calls answer.
-use Rattle.std.specs.Prelude.{◌≡◌, ℕ, ◌+◌, ◌-◌, ◌%◌, ◌<◌, ◌≤◌, List, [], ◌∷◌, take, length, map, ⊤, Bool, true, false, not, ◌&&◌, ◌||◌, ◌==◌, nat_lt, nat_le, Option, Some, None, IfSome, Result, Ok, Err, slice_get, if◌then◌else◌}
+use Rattle.std.specs.Prelude.{◌≡◌, ℕ, ◌+◌, ◌-◌, ◌%◌, ◌^◌, ◌<◌, ◌≤◌, List, [], ◌∷◌, take, length, map, ⊤, Bool, true, false, not, ◌&&◌, ◌||◌, ◌==◌, nat_lt, nat_le, Option, Some, None, IfSome, Result, Ok, Err, slice_get, if◌then◌else◌}
 use Rattle.std.specs.List.{AllByRecursion}
 use Rattle.hk_base.specs.Fields.{number_of}
 use Rattle.hk_base.specs.declared.types.RequestId.{RequestId}
 use Rattle.hk_base.specs.TailoringParts.{TailoringParts}
 use Rattle.pus_packet.specs.declared.header.TcHeader.{TcHeader}
 use Rattle.pus_messages.specs.Messages.{protocol}
-use Rattle.ground_history.specs.Histories.{Sent, Kept, History, is_own, is_known_begun, sent_short, sent_long, tag_of, history_with_got, history_with_report}
+use Rattle.ground_history.specs.Histories.{Sent, Kept, History, is_own, is_known_begun, sent_short, sent_long, tag_of, history_with_got, history_with_report, number_of_body, stray_id}
 use Rattle.hk_base.specs.declared.types.Memory.{Memory}
 use Rattle.pus_messages.specs.declared.message.Report.{Report}
 use Rattle.ground_history.specs.declared.answer.GotKind.{GotKind}
@@ -40,6 +40,12 @@ got_result p h packet (Err m) = h
 abbrev pub report_result : History → List ℕ → Report → Result GotKind Memory → History
 report_result h packet r (Ok kind) = history_with_report h packet r kind
 report_result h packet r (Err m) = h
+
+-- a report that isn't stray has this number of the request that it verifies
+pub record HasNumber (h : History) (r : Report) (number : Option ℕ) : Type 0 where
+  pub found : number ≡ number_of_body h r.header.tag r.body
+  pub sent : stray_id h r.header.tag r.body ≡ None
+  pub near : IfSome number (λ k. k < 2 ^ 63)
 
 -- the count of a request packet with these headers, if it is of the tailoring's process and source
 abbrev pub own_count : TailoringParts → Option TcHeader → Result ℕ SentFault

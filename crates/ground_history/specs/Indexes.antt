@@ -1,5 +1,5 @@
 -- What is kept up to date of the evidence, so that it is found without a look at all kept packets.
-use Rattle.std.specs.Prelude.{◌≡◌, ℕ, suc, ◌+◌, ◌-◌, ◌^◌, ◌<◌, List, [], ◌∷◌, map, filter, max, min, nat_lt, nat_le, Bool, true, false, not, ◌&&◌, ◌||◌, ◌==◌, Option, Some, None, IfSome, unwrap_or, IsSome, if◌then◌else◌}
+use Rattle.std.specs.Prelude.{◌≡◌, ℕ, suc, ◌+◌, ◌-◌, ◌^◌, ◌<◌, ◌≤◌, List, [], ◌∷◌, map, filter, max, min, nat_lt, nat_le, Bool, true, false, not, ◌&&◌, ◌||◌, ◌==◌, Option, Some, None, IfSome, unwrap_or, IsSome, if◌then◌else◌}
 use Rattle.std.specs.List.{list_any, All}
 use Rattle.std.specs.Option.{option_map_or, option_map}
 use Rattle.std.specs.Map.{lookup}
@@ -8,6 +8,7 @@ use Rattle.std.specs.Ordering.{nat_cmp, ordering_then}
 use Rattle.std.specs.declared.cmp.Ordering.{Ordering}
 use Rattle.st01_reports.specs.declared.verification.Verification.{Verification}
 use Rattle.st01_reports.specs.declared.verification.Verification.TheVariants as v
+use Rattle.pus_messages.specs.declared.message.ReportBody.{ReportBody}
 use Rattle.pus_messages.specs.declared.message.ReportBody.TheVariants.{Verify}
 use Rattle.ground_history.specs.Histories.{Kept, tag_of, greatest, is_begun_report}
 use Rattle.ground_history.specs.Evidence.{least, verifies, comes_before, comes_after, shows_accepted, shows_barred, shows_unstarted, is_completion}
@@ -111,6 +112,11 @@ pub record HasRoom (e : Evidence) (request : ℕ) (report : Verification) : Type
   pub done : All (HasMark e.done request) (done_steps report)
   pub refused : All (HasMark e.refused request) (refused_steps report)
 
+-- the indexes have a place for what a kept packet is to change
+abbrev pub HasRoomFor : Evidence → Option ℕ → ReportBody → Type 0
+HasRoomFor e (Some request) (Verify report) = HasRoom e request report
+HasRoomFor e _ _ = Unit {0}
+
 -- two indexes say the same
 pub record SaysSame (old new : Evidence) : Type 0 where
   pub low : (k : ℕ) → height_at new.low k ≡ height_at old.low k
@@ -159,6 +165,7 @@ pub record Says (e : Evidence) (kept : List Kept) : Type 0 where
   pub small : (k : ℕ) → height_at e.low k < 2 ^ 64
   pub high : (k : ℕ) → k < 2 ^ 64 → tag_at_height (height_at e.high (mirrored k)) ≡ least (map tag_of (filter (comes_after k) kept))
   pub begun : (k : ℕ) → nat_lt k e.begun ≡ list_any (begins k) kept
+  pub reach : e.begun ≤ 2 ^ 63
   pub shown : (k : ℕ) → shown_at e.shown k ≡ shown_by kept k
   pub done : (k step : ℕ) → is_marked e.done k step ≡ list_any (is_on (λ r. list_any (λ s. s == step) (done_steps r)) k) kept
   pub refused : (k step : ℕ) → is_marked e.refused k step ≡ list_any (is_on (λ r. list_any (λ s. s == step) (refused_steps r)) k) kept

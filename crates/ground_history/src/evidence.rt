@@ -1,14 +1,16 @@
-ghost use Rattle.std.specs.Prelude.{◌≡◌, ◌<◌, ◌-◌, ◌^◌, ℕ, [], OnOk, nat_lt};
-ghost use Rattle.ground_history.specs.Histories.{is_begun_report};
+ghost use Rattle.std.specs.Prelude.{◌≡◌, ◌<◌, ◌-◌, ◌^◌, ℕ, List, [], IfSome, OnOk, nat_lt};
+ghost use Rattle.ground_history.specs.Histories.{Kept, insert_kept, is_begun_report};
 ghost use Rattle.pus_messages.specs.declared.message.ReportBody.TheVariants.{Verify};
 ghost use Rattle.ground_history.specs.Stairs.{height_at};
 ghost use Rattle.ground_history.specs.Indexes as indexes;
-ghost use Rattle.ground_history.specs.Indexes.{HasRoom, SaysSame, SaysMore, Says, tag_at_height};
+ghost use Rattle.ground_history.specs.Indexes.{HasRoom, HasRoomFor, SaysSame, SaysMore, Says, tag_at_height};
 
+use crate::kept::KeptPacket;
 use crate::marks::Marks;
 use crate::shown::{Shown, ShownRequests};
 use crate::staircase::Staircase;
 use hk_base::Memory;
+use pus_messages::ReportBody;
 use st01_reports::Verification;
 use std::alloc::Global;
 
@@ -62,8 +64,35 @@ impl Evidence {
         u64::try_from(PAST_TAGS.saturating_sub(height)).ok()
     }
 
+    /// Makes room for what a packet shows that is to be kept, so that `note_kept` takes no memory.
+    pub(crate) fn make_room_for(&mut self, number: Option<u64>, body: &ReportBody) -> Result<(), Memory>
+        requires { IfSome number (λ k. k < 2 ^ 63) }
+        ensures same { (kept : List Kept) → Says self.old kept → Says self.new kept }
+        ensures room { OnOk result (HasRoomFor self.new number body.now) }
+    {
+        if let Some(request) = number {
+            if let ReportBody::Verify(report) = body {
+                self.make_room(request, report)?;
+            }
+        }
+        Ok(())
+    }
+
+    /// Notes what a kept packet shows.
+    pub(crate) fn note_kept(&mut self, packet: &KeptPacket)
+        requires room { HasRoomFor self.old packet.now.number packet.now.report.body }
+        requires number { IfSome packet.now.number (λ k. k < 2 ^ 63) }
+        ensures { (kept : List Kept) → Says self.old kept → Says self.new (insert_kept packet.now kept) }
+    {
+        if let Some(request) = packet.number() {
+            if let ReportBody::Verify(report) = &packet.report().body {
+                self.note(packet.tag(), request, report);
+            }
+        }
+    }
+
     /// Makes room for what a report on a request shows, so that `note` takes no memory.
-    pub(crate) fn make_room(&mut self, request: u64, report: &Verification) -> Result<(), Memory>
+    fn make_room(&mut self, request: u64, report: &Verification) -> Result<(), Memory>
         requires { request < 2 ^ 63 }
         ensures same { SaysSame self.old self.new }
         ensures room { OnOk result (HasRoom self.new request report.now) }
@@ -80,7 +109,7 @@ impl Evidence {
     }
 
     /// Notes what a report with this tag on a request shows.
-    pub(crate) fn note(&mut self, tag: u64, request: u64, report: &Verification)
+    fn note(&mut self, tag: u64, request: u64, report: &Verification)
         requires room { HasRoom self.old request report.now }
         requires request { request < 2 ^ 63 }
         ensures { SaysMore self.old self.new tag request report.now }

@@ -1,18 +1,18 @@
-ghost use Rattle.std.specs.Prelude.{◌≡◌, ◌≤◌, ◌<◌, ◌^◌, ◌+◌, ◌%◌, ℕ, length, nat_lt, slice_get, true, Some, None, Ok, IfOk, IfSome, OnOk, OnErr, option_map};
-ghost use Rattle.std.specs.Option.{option_copied, option_map_or};
+ghost use Rattle.std.specs.Prelude.{◌≡◌, ◌≤◌, ◌<◌, ◌^◌, ◌+◌, ◌%◌, ℕ, length, nat_lt, slice_get, true, Some, None, Ok, IfOk, IfSome, MatchResult, OnOk, OnErr, option_map};
+ghost use Rattle.std.specs.Option.{option_copied};
 ghost use Rattle.pus_messages.specs.Messages.{protocol};
 ghost use Rattle.pus_messages.specs.Protocol.{readable};
 ghost use Rattle.ground_history.specs.Histories as histories;
 ghost use Rattle.ground_history.specs.Histories.{new_history, sent_answer, got_kind, history_with_sent};
 ghost use Rattle.ground_history.specs.Evidence as evidence;
-ghost use Rattle.ground_history.specs.Ground.{IsAnswer, IsCountOf, with_history, is_room_for, got_result, report_result, own_count, answer_by_count};
+ghost use Rattle.ground_history.specs.Ground.{HasNumber, IsAnswer, IsCountOf, with_history, is_room_for, got_result, report_result, own_count, answer_by_count};
 
 use crate::answer::{GotKind, Outcome, SentFault};
 use crate::evidence::Evidence;
 use crate::kept::{KeptPacket, KeptPackets};
 use crate::reception::{Received, asked, is_alone, receive, subject_of};
 use crate::requests::{Requests, SentRequest};
-use hk_base::{Items, Memory, Tailoring};
+use hk_base::{Items, Memory, RequestId, Tailoring};
 use pus_messages::{Report, ReportBody, Request};
 use pus_packet::split_tc;
 use std::alloc::Global;
@@ -25,7 +25,7 @@ const COUNTS: u64 = 16_384;
 const WINDOW: u64 = 8_191;
 
 /// What the ground knows of a session: the requests that it sent, and the packets that it kept.
-#[derive(Debug, Drop)]
+#[derive(Drop)]
 pub struct History {
     alloc: Global,
     tailoring: Tailoring,
@@ -69,12 +69,11 @@ impl History {
         ensures answer { IsAnswer (sent_answer (protocol self.old.tailoring) self.old.history bytes.now) result }
         ensures state { self.new ≡ with_history self.old (history_with_sent (protocol self.old.tailoring) self.old.history bytes.now result) }
     {
-        let count = self.own_count(bytes)?;
-        let is_new = self.is_new(count, bytes)?;
-        if is_new {
+        let answer = self.answer(bytes);
+        if let Ok(true) = answer {
             self.append(bytes)?;
         }
-        Ok(is_new)
+        answer
     }
 
     /// Octets that were received: what became of them.
@@ -131,12 +130,9 @@ impl History {
         requires { k < length self.now.history.requests }
         ensures { result ≡ evidence.outcome self.now.history k number }
     {
-        let shown = self.evidence.shown.at(k);
-        if shown.unstarted || self.evidence.refused.is_marked(k, number) {
+        if self.is_refused(k, number) {
             Outcome::Refused
-        } else if shown.completed || self.evidence.done.is_marked(k, number) {
-            Outcome::Done
-        } else if shown.started && self.is_alone(k) {
+        } else if self.is_executed(k, number) {
             Outcome::Done
         } else {
             Outcome::Unknown
@@ -146,7 +142,7 @@ impl History {
     /// What request k asks; None exactly where its body isn't in the grammar.
     pub fn request(&self, k: u64) -> Option<&Request>
         requires { k < length self.now.history.requests }
-        ensures { option_map_or (λ sent. option_copied result ≡ sent.request) (slice_get self.now.history.requests k) ⊥ }
+        ensures { IfSome (slice_get self.now.history.requests k) (λ sent. option_copied result ≡ sent.request) }
     {
         match self.requests.get(k) {
             Some(sent) => sent.request(),
@@ -173,12 +169,12 @@ impl History {
     pub fn room(&self) -> u64
         ensures { (j : ℕ) → is_room_for self.now.history (length self.now.history.requests + j) ≡ nat_lt j result }
     {
-        let most = if self.long {
-            WINDOW.saturating_add(self.evidence.begun)
+        let sent = self.requests.len();
+        if self.long {
+            (WINDOW + self.evidence.begun).saturating_sub(sent)
         } else {
-            COUNTS
-        };
-        most.saturating_sub(self.requests.len())
+            COUNTS.saturating_sub(sent)
+        }
     }
 
     /// Whether the state of the board at the start is known.
@@ -211,11 +207,24 @@ impl History {
         }
     }
 
+    /// Whether a packet is a new request, or why it can't be sent.
+    fn answer(&self, bytes: &[u8]) -> Result<bool, SentFault>
+        requires { length bytes.now ≤ 2 ^ 31 }
+        ensures answer { result ≡ sent_answer (protocol self.now.tailoring) self.now.history bytes.now }
+        ensures next { result ≡ Ok true → IsCountOf (length self.now.history.requests % 16384) bytes.now }
+    {
+        match self.own_count(bytes) {
+            Ok(count) => self.is_new(count, bytes),
+            Err(fault) => Err(fault),
+        }
+    }
+
     /// The count of a request packet of this process and this source.
     fn own_count(&self, bytes: &[u8]) -> Result<u16, SentFault>
         requires { length bytes.now ≤ 2 ^ 31 }
         ensures count { result ≡ own_count self.now.tailoring ((protocol self.now.tailoring).command bytes.now) }
         ensures octets { IfOk result (λ count. IsCountOf count bytes.now) }
+        ensures small { IfOk result (λ count. count < 2 ^ 14) }
     {
         let Ok((header, _)) = split_tc(&self.tailoring, bytes) else {
             return Err(SentFault::BadRequest);
@@ -299,6 +308,22 @@ impl History {
         k < self.evidence.begun
     }
 
+    /// Whether a report shows that the instruction was refused.
+    fn is_refused(&self, k: u64, number: u32) -> bool
+        ensures { result ≡ evidence.has_report (evidence.shows_refused number) self.now.history k }
+    {
+        self.evidence.shown.at(k).unstarted | self.evidence.refused.is_marked(k, number)
+    }
+
+    /// Whether a report shows that the instruction was executed, where none shows that it was refused.
+    fn is_executed(&self, k: u64, number: u32) -> bool
+        ensures { result ≡ evidence.has_report (evidence.shows_executed (evidence.is_alone self.now.history k) number) self.now.history k }
+    {
+        let shown = self.evidence.shown.at(k);
+        let told = shown.completed | self.evidence.done.is_marked(k, number);
+        told | (self.is_alone(k) & shown.started)
+    }
+
     /// Whether request k has one instruction.
     fn is_alone(&self, k: u64) -> bool
         ensures { result ≡ evidence.is_alone self.now.history k }
@@ -322,7 +347,8 @@ impl History {
         let request = asked(self.alloc, &self.tailoring, bytes)?;
         let packet = Items::from_slice(self.alloc, bytes)?;
         let floor = self.kept.newest();
-        self.requests.push(SentRequest::new(packet, request, floor))
+        self.requests.push(SentRequest::new(packet, request, floor))?;
+        Ok(())
     }
 
     /// A report that was received: what becomes of it.
@@ -331,20 +357,33 @@ impl History {
         ensures state { self.new ≡ with_history self.old (report_result self.old.history bytes.now report result) }
     {
         let tag = report.header.tag;
-        let mut number = None;
-        if let ReportBody::Verify(verification) = &report.body {
-            let id = subject_of(verification);
-            number = self.requests.verified(self.long, id, tag);
-            if number.is_none() {
-                return Ok(GotKind::Stray(id.word));
-            }
-        }
+        let number = match self.number_of(&report) {
+            Ok(number) => number,
+            Err(id) => return Ok(GotKind::Stray(id.word)),
+        };
         if let Some(kept) = self.kept.with_tag(tag) {
-            let is_same = kept.packet() == bytes;
-            return Ok(if is_same { GotKind::Repeat(tag) } else { GotKind::Conflict(tag) });
+            return Ok(if kept.packet() == bytes {
+                GotKind::Repeat(tag)
+            } else {
+                GotKind::Conflict(tag)
+            });
         }
         self.keep(bytes, report, number)?;
         Ok(GotKind::Kept(tag))
+    }
+
+    /// The number of the request that a report verifies, if it is a verification report; the ID of a request that wasn't sent.
+    fn number_of(&self, report: &Report) -> Result<Option<u64>, RequestId>
+        ensures { MatchResult result (λ number. HasNumber self.now.history report.now number) (λ id. histories.stray_id self.now.history report.now.header.tag report.now.body ≡ Some id.word) }
+    {
+        let ReportBody::Verify(verification) = &report.body else {
+            return Ok(None);
+        };
+        let id = subject_of(verification);
+        match self.requests.verified(self.long, id, report.header.tag) {
+            Some(number) => Ok(Some(number)),
+            None => Err(id),
+        }
     }
 
     /// Keeps a packet, and what it shows.
@@ -356,20 +395,13 @@ impl History {
         ensures same { OnErr result (self.new ≡ self.old) }
     {
         let tag = report.header.tag;
-        if let (Some(number), ReportBody::Verify(verification)) = (number, &report.body) {
-            self.evidence.make_room(number, verification)?;
-        }
+        self.evidence.make_room_for(number, &report.body)?;
         let packet = Items::from_slice(self.alloc, bytes)?;
         self.kept.keep(KeptPacket::new(packet, report, number))?;
-        if let Some(number) = number {
-            let Some(kept) = self.kept.with_tag(tag) else {
-                unreachable!();
-            };
-            let ReportBody::Verify(verification) = &kept.report().body else {
-                unreachable!();
-            };
-            self.evidence.note(tag, number, verification);
-        }
+        let Some(kept) = self.kept.with_tag(tag) else {
+            unreachable!();
+        };
+        self.evidence.note_kept(kept);
         Ok(())
     }
 }

@@ -43,6 +43,12 @@ impl KeptPacket {
         self.report.header.tag
     }
 
+    pub(crate) fn number(&self) -> Option<u64>
+        ensures { result ≡ self.now.number }
+    {
+        self.number
+    }
+
     pub(crate) fn packet(&self) -> &[u8]
         ensures { result.now ≡ self.now.packet }
     {

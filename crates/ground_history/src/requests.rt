@@ -127,7 +127,7 @@ impl Requests {
     /// The last request that a verification report with this request ID and tag can be on.
     pub(crate) fn verified(&self, long: bool, id: RequestId, tag: u64) -> Option<u64>
         ensures number { result ≡ last_number (is_verified_by long id tag) 0 self.now }
-        ensures sent { IfSome result (λ number. number < length self.now) }
+        ensures sent { IfSome result (λ number. number < 2 ^ 63) }
     {
         let count = u64::from(id.word) % COUNTS;
         let mut rounds = (self.len() + COUNTS - 1 - count) / COUNTS;

@@ -392,3 +392,9 @@ says-unverified e x o kept says =
       begins = λ k. ap (λ b. b && option_map_or (λ j. nat_le k j) x.number false) (other-begins x.report.body o);
     })
     says
+
+pub other-from : (body : ReportBody) → ((report : Verification) → body ≡ Verify report → ⊥) → IsOther body
+other-from (Verify report) f = f report refl
+other-from (Hk report) f = tt
+other-from (Stat report) f = tt
+other-from (Par report) f = tt

@@ -87,3 +87,8 @@ newest-is tag kept entries next newest now is h none e was max_is =
     let here = newest-insert kept (packets_of entries) in
     let all : greatest (map tag_of (packets_of next)) ≡ greatest (map tag_of (insert_kept kept (packets_of entries))) = ap (λ ks. greatest (map tag_of ks)) list in
     omega (arith, here, all, was, max_is, is)
+
+pub kept-found : (tag : ℕ) (kept next : List Kept) (x : Kept) → tag ≡ tag_of x → find (λ k. tag_of k == tag) kept ≡ None → next ≡ insert_kept x kept → find (λ k. tag_of k == tag) next ≡ Some x
+kept-found tag kept next x is none e =
+    let absent : find (λ k. tag_of k == tag_of x) kept ≡ None = subst (λ n. find (λ k. tag_of k == n) kept ≡ None) is none in
+    ap (λ ks. find (λ k. tag_of k == tag) ks) e ∙ (ap (λ n. find (λ k. tag_of k == n) (insert_kept x kept)) is ∙ found-kept x kept absent)

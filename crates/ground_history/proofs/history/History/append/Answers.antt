@@ -1,13 +1,11 @@
-use Rattle.std.proofs.Common.{◌≡◌, ◌∙◌, sym, ap, subst}
+use Rattle.std.proofs.Common.{◌≡◌, ◌∙◌, ◌++◌, ◌∷◌, [], sym, ap}
+use Rattle.ground_history.specs.Histories.{Sent}
+use Rattle.ground_history.specs.contracts.history.History.{the_view}
 use Rattle.ground_history.proofs.OutcomeLemmas.{appended}
 use Rattle.ground_history.proofs.history.History.append.Goals as goal
 
 pub returns-clause-added : goal.returns-clause-added
 returns-clause-added c =
-    let v = c.self.view_is in
-    let p = c.in_ok-push.ensures in
-    let a = c.in_ok-request.ensures in
-    let q = c.in_ok-packet.ensures in
-    let n = c.new.ensures in
-    let f = c.newest-floor.ensures in
-    ?
+    rw (← c.self.view_is)
+    (appended (the_view c.self.inside) c.push.new.self c.in_ok-packet.packet c.args.bytes.now c.in_ok-request.request c.newest-floor.result
+    (c.in_ok-push.ensures.pushed ∙ ap (λ (r : Sent). c.self.inside.requests ++ r ∷ []) c.new.ensures) c.in_ok-packet.ensures c.in_ok-request.ensures c.newest-floor.ensures)

@@ -35,7 +35,7 @@ pub count-of : (t : TailoringParts) (packet : List ℕ) (h : TcHeader) (body : L
 count-of t packet h body e = go (packet_fault 1 11 t.widths.tc_checksum packet) refl e
   where
     go : (f : Option PacketFault) → packet_fault 1 11 t.widths.tc_checksum packet ≡ f
-        → unless_fault f (command_headers packet, drop 11 (checked_part t.widths.tc_checksum packet)) ≡ Ok (h, body) → IsCountOf h.count packet
+        → unless_fault {A = TcHeader × List ℕ} f (command_headers packet, drop 11 (checked_part t.widths.tc_checksum packet)) ≡ Ok (h, body) → IsCountOf h.count packet
     go None q g =
         let same : command_headers packet ≡ h = cc in
         let enough = enough-octets t.widths.tc_checksum packet q in

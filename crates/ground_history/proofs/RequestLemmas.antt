@@ -50,7 +50,7 @@ none-before long id tag requests rounds r counted at fails none k q e le =
     by (inl lt) (inr apart) =
         let is : number_of (take 4 q.packet) % 16384 ≡ (0 + k) % 16384 = counted-at 0 requests k q counted e in
         let ne : number_of (take 4 q.packet) ≡ id.word → ⊥ = λ same.
-            other-count (id.word % 16384) rounds k (omega arith) (omega (arith, le, apart)) lt (sym (is ∙ ap (λ n. n % 16384) (omega arith)) ∙ ap (λ n. n % 16384) same) in
+        other-count (id.word % 16384) rounds k (omega arith) (omega (arith, le, apart)) lt (sym (is ∙ ap (λ n. n % 16384) (omega arith)) ∙ ap (λ n. n % 16384) same) in
         and_left (number_of (take 4 q.packet) == id.word) (not long || nat_lt q.floor tag) (ne_eqb _ _ ne)
 
 pub last-verified : (long : Bool) (id : RequestId) (tag : ℕ) (requests : List Sent) (number : ℕ) (r : Sent) → slice_get requests number ≡ Some r → is_verified_by long id tag r ≡ true
@@ -86,7 +86,7 @@ between-fails : (long : Bool) (id : RequestId) (tag : ℕ) (requests : List Sent
 between-fails long id tag requests rounds k r counted e above below =
     let is : number_of (take 4 r.packet) % 16384 ≡ (0 + k) % 16384 = counted-at 0 requests k r counted e in
     let ne : number_of (take 4 r.packet) ≡ id.word → ⊥ = λ same.
-        other-count (id.word % 16384) rounds k (omega arith) above below (sym (is ∙ ap (λ n. n % 16384) (omega arith)) ∙ ap (λ n. n % 16384) same) in
+    other-count (id.word % 16384) rounds k (omega arith) above below (sym (is ∙ ap (λ n. n % 16384) (omega arith)) ∙ ap (λ n. n % 16384) same) in
     and_left (number_of (take 4 r.packet) == id.word) (not long || nat_lt r.floor tag) (ne_eqb _ _ ne)
 
 pub none-next : (long : Bool) (id : RequestId) (tag : ℕ) (requests : List Sent) (word rounds : ℕ) → word ≡ id.word → AreCounted 0 requests → 0 < rounds

@@ -253,12 +253,12 @@ same-shown a b c d e p q r s t f g h i j = rw (f, g, h, i, j) refl
 shown-step : (b : Bool) (s r : Shown)
     → (if b then either_shown s r else s)
     ≡ record {
-        accepted = s.accepted || (b && r.accepted);
-        barred = s.barred || (b && r.barred);
-        unstarted = s.unstarted || (b && r.unstarted);
-        started = s.started || (b && r.started);
-        completed = s.completed || (b && r.completed);
-      }
+      accepted = s.accepted || (b && r.accepted);
+      barred = s.barred || (b && r.barred);
+      unstarted = s.unstarted || (b && r.unstarted);
+      started = s.started || (b && r.started);
+      completed = s.completed || (b && r.completed);
+    }
 shown-step true s r = refl
 shown-step false s r = sym (same-shown _ _ _ _ _ _ _ _ _ _ (or_false s.accepted) (or_false s.barred) (or_false s.unstarted) (or_false s.started) (or_false s.completed))
   where

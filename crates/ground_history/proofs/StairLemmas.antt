@@ -120,9 +120,10 @@ fits-here place (s ∷ steps) sorted rising =
 
     later : (x : ℕ × ℕ) → s.1 ≤ x.1 → (x.0 ≤ place → x.1 ≤ height_at steps place) × (place < x.0 → height_at steps place ≤ x.1)
         → (x.0 ≤ place → x.1 ≤ max (given s.0 s.1 place) (height_at steps place)) × (place < x.0 → max (given s.0 s.1 place) (height_at steps place) ≤ x.1)
-    later x le h =
-        ((λ under. let a = h.0 under in omega (arith, a)),
-        (λ over. let a = h.1 over in grind (arith, nat_tests, a)))
+    later x le h = (
+      (λ under. let a = h.0 under in omega (arith, a)),
+      (λ over. let a = h.1 over in grind (arith, nat_tests, a)),
+    )
 
 -- steps behind one at or behind a place are as high as what fits there
 above : (place height at : ℕ) (steps : List (ℕ × ℕ)) → place ≤ at → AllByRecursion (λ y. nat_cmp at y ≡ Less) (keys_of steps) → FitsBetween place height steps → AllByRecursion (λ s. height ≤ s.1) steps

@@ -65,7 +65,11 @@ impl Evidence {
     }
 
     /// Makes room for what a packet shows that is to be kept, so that `note_kept` takes no memory.
-    pub(crate) fn make_room_for(&mut self, number: Option<u64>, body: &ReportBody) -> Result<(), Memory>
+    pub(crate) fn make_room_for(
+        &mut self,
+        number: Option<u64>,
+        body: &ReportBody,
+    ) -> Result<(), Memory>
         requires { IfSome number (λ k. k < 2 ^ 63) }
         ensures same { (kept : List Kept) → Says self.old kept → Says self.new kept }
         ensures room { OnOk result (HasRoomFor self.new number body.now) }
@@ -118,7 +122,8 @@ impl Evidence {
             self.low.raise(place, u128::from(tag));
         }
         if let Some(place) = place_after(request, report) {
-            self.high.raise(mirrored(place), PAST_TAGS - u128::from(tag));
+            self.high
+                .raise(mirrored(place), PAST_TAGS - u128::from(tag));
         }
         if shows_begun(report) {
             self.begun = self.begun.max(request + 1);
@@ -167,9 +172,8 @@ fn shows_begun(report: &Verification) -> bool
     ensures { result ≡ is_begun_report (Verify report.now) }
 {
     match report {
-        Verification::Accepted(_)
-        | Verification::Refused(_, _)
-        | Verification::NotRouted(_, _) => false,
+        Verification::Accepted(_) | Verification::Refused(_, _) | Verification::NotRouted(_, _) =>
+            false,
         _ => true,
     }
 }

@@ -347,7 +347,8 @@ impl History {
         let request = asked(self.alloc, &self.tailoring, bytes)?;
         let packet = Items::from_slice(self.alloc, bytes)?;
         let floor = self.kept.newest();
-        self.requests.push(SentRequest::new(packet, request, floor))?;
+        self.requests
+            .push(SentRequest::new(packet, request, floor))?;
         Ok(())
     }
 

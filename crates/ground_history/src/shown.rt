@@ -66,19 +66,28 @@ impl Shown {
 fn shows_accepted(report: &Verification) -> bool
     ensures { result ≡ evidence.shows_accepted report.now }
 {
-    !matches!(report, Verification::Refused(_, _) | Verification::NotRouted(_, _))
+    !matches!(
+        report,
+        Verification::Refused(_, _) | Verification::NotRouted(_, _)
+    )
 }
 
 fn shows_barred(report: &Verification) -> bool
     ensures { result ≡ evidence.shows_barred report.now }
 {
-    matches!(report, Verification::Refused(_, _) | Verification::NotStarted(_, _))
+    matches!(
+        report,
+        Verification::Refused(_, _) | Verification::NotStarted(_, _)
+    )
 }
 
 fn is_completion(report: &Verification) -> bool
     ensures { result ≡ evidence.is_completion report.now }
 {
-    matches!(report, Verification::Completed(_) | Verification::Incomplete(_, _, _))
+    matches!(
+        report,
+        Verification::Completed(_) | Verification::Incomplete(_, _, _)
+    )
 }
 
 /// What is shown of each request, by its number.

@@ -22,7 +22,7 @@ invariant_of-self-in_err-keep c =
 pub unreachable-requires : goal.unreachable-requires
 unreachable-requires c =
     let absent : find (λ k. tag_of k == c.args.report.header.tag) c.self.inside.kept ≡ None =
-        subst (λ (g : Ground). find (λ k. tag_of k == c.args.report.header.tag) g.history.kept ≡ None) (sym c.self.view_is) c.requires.absent in
+    subst (λ (g : Ground). find (λ k. tag_of k == c.args.report.header.tag) g.history.kept ≡ None) (sym c.self.view_is) c.requires.absent in
     let found = kept-found c.args.report.header.tag c.self.inside.kept c.keep.new.self c.new.result (sym (ap tag_of c.new.ensures)) absent c.in_ok-keep.ensures.kept in
     let some = c.with_tag.ensures ∙ found in
     let none = ap option_copied c.in_default.is in
@@ -31,7 +31,7 @@ unreachable-requires c =
 pub note_kept-requires-clause-room : goal.note_kept-requires-clause-room
 note_kept-requires-clause-room c =
     let absent : find (λ k. tag_of k == c.args.report.header.tag) c.self.inside.kept ≡ None =
-        subst (λ (g : Ground). find (λ k. tag_of k == c.args.report.header.tag) g.history.kept ≡ None) (sym c.self.view_is) c.requires.absent in
+    subst (λ (g : Ground). find (λ k. tag_of k == c.args.report.header.tag) g.history.kept ≡ None) (sym c.self.view_is) c.requires.absent in
     let found = kept-found c.args.report.header.tag c.self.inside.kept c.keep.new.self c.new.result (sym (ap tag_of c.new.ensures)) absent c.in_ok-keep.ensures.kept in
     let is = same_Some _ _ (c.in-Some.ensures ∙ found) ∙ c.new.ensures in
     subst (λ (x : Kept). HasRoomFor c.make_room_for.new.self x.number x.report.body) (sym is) c.in_ok-make_room_for.ensures.room
@@ -39,7 +39,7 @@ note_kept-requires-clause-room c =
 pub note_kept-requires-clause-number : goal.note_kept-requires-clause-number
 note_kept-requires-clause-number c =
     let absent : find (λ k. tag_of k == c.args.report.header.tag) c.self.inside.kept ≡ None =
-        subst (λ (g : Ground). find (λ k. tag_of k == c.args.report.header.tag) g.history.kept ≡ None) (sym c.self.view_is) c.requires.absent in
+    subst (λ (g : Ground). find (λ k. tag_of k == c.args.report.header.tag) g.history.kept ≡ None) (sym c.self.view_is) c.requires.absent in
     let found = kept-found c.args.report.header.tag c.self.inside.kept c.keep.new.self c.new.result (sym (ap tag_of c.new.ensures)) absent c.in_ok-keep.ensures.kept in
     let is = same_Some _ _ (c.in-Some.ensures ∙ found) ∙ c.new.ensures in
     subst (λ (x : Kept). IfSome x.number (λ k. k < 2 ^ 63)) (sym is) c.requires.sent
@@ -47,7 +47,7 @@ note_kept-requires-clause-number c =
 pub invariant_of-self-2 : goal.invariant_of-self-2
 invariant_of-self-2 c =
     let absent : find (λ k. tag_of k == c.args.report.header.tag) c.self.inside.kept ≡ None =
-        subst (λ (g : Ground). find (λ k. tag_of k == c.args.report.header.tag) g.history.kept ≡ None) (sym c.self.view_is) c.requires.absent in
+    subst (λ (g : Ground). find (λ k. tag_of k == c.args.report.header.tag) g.history.kept ≡ None) (sym c.self.view_is) c.requires.absent in
     let found = kept-found c.args.report.header.tag c.self.inside.kept c.keep.new.self c.new.result (sym (ap tag_of c.new.ensures)) absent c.in_ok-keep.ensures.kept in
     let is = same_Some _ _ (c.in-Some.ensures ∙ found) in
     let says = c.note_kept.ensures c.self.inside.kept (c.make_room_for.ensures.same c.self.inside.kept c.self.invariant) in

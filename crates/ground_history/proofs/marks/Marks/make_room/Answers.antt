@@ -9,11 +9,11 @@ loop-step-preserved c =
     record {
       marks = λ k s. c.make_place.ensures.marks k s ∙ c.loop-step.invariant.marks k s;
       room = λ j d lt. elim (cases_eq j c.loop-step.step-index) [
-        inl e ↦
-          let under : j < length c.args.steps.now = omega arith in
-          subst (λ n. HasMark c.make_place.new.self c.args.request n) (ap (λ i. get_or c.args.steps.now i 0) (sym e) ∙ get_or_default c.args.steps.now j 0 d under) c.in_ok-make_place.ensures.room
-      | inr ne ↦
-          let before : j < c.loop-step.step-index = omega arith in
-          c.make_place.ensures.others _ _ (c.loop-step.invariant.room j d before)
+        | inl e ↦
+            let under : j < length c.args.steps.now = omega arith in
+            subst (λ n. HasMark c.make_place.new.self c.args.request n) (ap (λ i. get_or c.args.steps.now i 0) (sym e) ∙ get_or_default c.args.steps.now j 0 d under) c.in_ok-make_place.ensures.room
+        | inr ne ↦
+            let before : j < c.loop-step.step-index = omega arith in
+            c.make_place.ensures.others _ _ (c.loop-step.invariant.room j d before)
       ];
     }

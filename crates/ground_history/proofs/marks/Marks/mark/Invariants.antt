@@ -7,5 +7,5 @@ abbrev pub invariant-loop-step : goal.invariant-loop-step
 invariant-loop-step l = record {
   marks : (k step : ℕ) → is_marked l.self k step
       ≡ (is_marked l.initial.self k step || (k == l.request && list_any (λ s. s == step) (take l.step-index l.steps)));
-  room : (k step : ℕ) → HasMark l.initial.self k step → HasMark l.self k step
+  room : (k step : ℕ) → HasMark l.initial.self k step → HasMark l.self k step;
 }

@@ -31,13 +31,18 @@ count-in-front (a ∷ b ∷ []) le = absurd (omega (arith, le))
 count-in-front (a ∷ b ∷ c ∷ []) le = absurd (omega (arith, le))
 count-in-front (a ∷ b ∷ c ∷ d ∷ rest) le = omega arith
 
+-- the headers of a packet that was split
+abbrev header_of : Result (TcHeader × List ℕ) PacketFault → TcHeader → TcHeader
+header_of (Ok parts) h = parts.0
+header_of (Err fault) h = h
+
 pub count-of : (t : TailoringParts) (packet : List ℕ) (h : TcHeader) (body : List ℕ) → split_command t packet ≡ Ok (h, body) → IsCountOf h.count packet
 count-of t packet h body e = go (packet_fault 1 11 t.widths.tc_checksum packet) refl e
   where
     go : (f : Option PacketFault) → packet_fault 1 11 t.widths.tc_checksum packet ≡ f
         → unless_fault {A = TcHeader × List ℕ} f (command_headers packet, drop 11 (checked_part t.widths.tc_checksum packet)) ≡ Ok (h, body) → IsCountOf h.count packet
     go None q g =
-        let same : command_headers packet ≡ h = cc in
+        let same : command_headers packet ≡ h = ap (λ (r : Result (TcHeader × List ℕ) PacketFault). header_of r h) g in
         let enough = enough-octets t.widths.tc_checksum packet q in
         (omega (arith, enough), sym (count-in-front packet enough) ∙ ap (λ (x : TcHeader). x.count) same)
     go (Some f) q g = cc

@@ -3,10 +3,10 @@ use Rattle.std.proofs.Common.{arith, ◌≡◌, ℕ, ◌<◌, refl, sym, ◌∙�
 use Rattle.std.proofs.lemmas.Bool.{lt-ltb, le-ltb, eq-eqb}
 use Rattle.std.proofs.lemmas.Bool.Decides.{nat_tests}
 use Rattle.std.proofs.lemmas.Cmp.{ranked}
-use Rattle.std.specs.Prelude.{find, ◌==◌, if◌then◌else◌}
+use Rattle.std.specs.Prelude.{filter, find, nat_le, not, ◌&&◌, ◌==◌, if◌then◌else◌}
 use Rattle.std.specs.Map.{lookup}
 use Rattle.std.specs.BTreeMap.{is_at, insert_entry}
-use Rattle.std.specs.Ordering.{nat_cmp, match_ordering, MatchOrdering, is_eq}
+use Rattle.std.specs.Ordering.{nat_cmp, match_ordering, MatchOrdering, is_eq, is_le}
 use Rattle.std.specs.declared.cmp.Ordering.{Ordering}
 use Rattle.std.specs.declared.cmp.Ordering.TheVariants.{Less, Equal, Greater}
 use Rattle.ground_history.specs.Histories.{Kept, tag_of, greatest, insert_kept}
@@ -92,3 +92,33 @@ pub kept-found : (tag : ℕ) (kept next : List Kept) (x : Kept) → tag ≡ tag_
 kept-found tag kept next x is none e =
     let absent : find (λ k. tag_of k == tag_of x) kept ≡ None = subst (λ n. find (λ k. tag_of k == n) kept ≡ None) is none in
     ap (λ ks. find (λ k. tag_of k == tag) ks) e ∙ (ap (λ n. find (λ k. tag_of k == n) (insert_kept x kept)) is ∙ found-kept x kept absent)
+
+-- ---- the first packet from a tag on
+
+pub from-is : (tag : ℕ) (s : ℕ × Kept) → (is_le (nat_cmp tag s.0) && not false) ≡ nat_le tag s.0
+from-is tag s = grind (arith, nat_tests)
+
+pub from-first : (p : ℕ × Kept → Bool) (tag : ℕ) (entries rest : List (ℕ × Kept)) (first : ℕ × Kept) → ((s : ℕ × Kept) → p s ≡ nat_le tag s.0) → IsByTag entries
+    → filter p entries ≡ first ∷ rest → find (λ k. nat_le tag (tag_of k)) (packets_of entries) ≡ Some first.1
+from-first p tag [] rest first same h e = cc
+from-first p tag (s ∷ entries) rest first same h e = go (p s) (same s) e (λ f. from-first p tag entries rest first same h.1 f)
+  where
+    go : (b : Bool) → b ≡ nat_le tag s.0 → cond b (s ∷ filter p entries) (filter p entries) ≡ first ∷ rest
+        → (filter p entries ≡ first ∷ rest → find (λ k. nat_le tag (tag_of k)) (packets_of entries) ≡ Some first.1)
+        → cond (nat_le tag (tag_of s.1)) (Some s.1) (find (λ k. nat_le tag (tag_of k)) (packets_of entries)) ≡ Some first.1
+    go true t f ih =
+        let here : nat_le tag (tag_of s.1) ≡ true = ap (λ n. nat_le tag n) (sym h.0) ∙ sym t in
+        let is : s ≡ first = cc in
+        rw here (ap (λ (x : ℕ × Kept). Some x.1) is)
+    go false t f ih = let here : nat_le tag (tag_of s.1) ≡ false = ap (λ n. nat_le tag n) (sym h.0) ∙ sym t in rw here (ih f)
+
+pub from-none : (p : ℕ × Kept → Bool) (tag : ℕ) (entries : List (ℕ × Kept)) → ((s : ℕ × Kept) → p s ≡ nat_le tag s.0) → IsByTag entries
+    → filter p entries ≡ [] → find (λ k. nat_le tag (tag_of k)) (packets_of entries) ≡ None
+from-none p tag [] same h e = refl
+from-none p tag (s ∷ entries) same h e = go (p s) (same s) e (from-none p tag entries same h.1)
+  where
+    go : (b : Bool) → b ≡ nat_le tag s.0 → cond b (s ∷ filter p entries) (filter p entries) ≡ []
+        → (filter p entries ≡ [] → find (λ k. nat_le tag (tag_of k)) (packets_of entries) ≡ None)
+        → cond (nat_le tag (tag_of s.1)) (Some s.1) (find (λ k. nat_le tag (tag_of k)) (packets_of entries)) ≡ None
+    go true t f ih = cc
+    go false t f ih = let here : nat_le tag (tag_of s.1) ≡ false = ap (λ n. nat_le tag n) (sym h.0) ∙ sym t in rw here (ih f)

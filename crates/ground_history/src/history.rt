@@ -1,9 +1,9 @@
-ghost use Rattle.std.specs.Prelude.{◌≡◌, ◌≤◌, ◌<◌, ◌^◌, ◌+◌, ◌%◌, ℕ, length, nat_lt, slice_get, true, Some, None, Ok, IfOk, IfSome, MatchResult, OnOk, OnErr, option_map};
+ghost use Rattle.std.specs.Prelude.{◌≡◌, ◌≤◌, ◌<◌, ◌^◌, ◌+◌, ◌%◌, ℕ, length, nat_lt, nat_le, find, slice_get, true, Some, None, Ok, IfOk, IfSome, MatchResult, OnOk, OnErr, option_map};
 ghost use Rattle.std.specs.Option.{option_copied};
 ghost use Rattle.pus_messages.specs.Messages.{protocol};
 ghost use Rattle.pus_messages.specs.Protocol.{readable};
 ghost use Rattle.ground_history.specs.Histories as histories;
-ghost use Rattle.ground_history.specs.Histories.{new_history, sent_answer, got_kind, history_with_sent};
+ghost use Rattle.ground_history.specs.Histories.{tag_of, new_history, sent_answer, got_kind, history_with_sent};
 ghost use Rattle.ground_history.specs.Evidence as evidence;
 ghost use Rattle.ground_history.specs.Ground.{HasNumber, IsAnswer, IsCountOf, with_history, is_room_for, got_result, report_result, own_count, answer_by_count};
 
@@ -216,6 +216,17 @@ impl History {
         match self.own_count(bytes) {
             Ok(count) => self.is_new(count, bytes),
             Err(fault) => Err(fault),
+        }
+    }
+
+    /// The first kept packet whose tag isn't below this one: with it the kept packets are gone through in the order of tags,
+    /// each in logarithmic time.
+    pub fn report_from(&self, tag: u64) -> Option<&Report>
+        ensures { option_copied result ≡ option_map (λ k. k.report) (find (λ k. nat_le tag (tag_of k)) self.now.history.kept) }
+    {
+        match self.kept.from_tag(tag) {
+            Some(kept) => Some(kept.report()),
+            None => None,
         }
     }
 

@@ -1,4 +1,4 @@
-ghost use Rattle.std.specs.Prelude.{◌≡◌, ◌∷◌, [], None, Some, find, ◌==◌, OnOk, OnErr, length, map, slice_get};
+ghost use Rattle.std.specs.Prelude.{◌≡◌, ◌∷◌, [], None, Some, find, nat_le, ◌==◌, OnOk, OnErr, length, map, slice_get};
 ghost use Rattle.std.specs.Option.{option_copied};
 ghost use Rattle.ground_history.specs.Histories.{tag_of, greatest, insert_kept};
 ghost use Rattle.ground_history.specs.Histories as histories;
@@ -8,6 +8,7 @@ use pus_messages::Report;
 use std::alloc::Global;
 use std::collections::BTreeMap;
 use std::marker::Model;
+use std::ops::Bound;
 
 /// A packet that was kept.
 #[derive(Debug, Drop)]
@@ -118,6 +119,17 @@ impl KeptPackets {
         ensures { option_copied result ≡ slice_get self.now number }
     {
         self.packets.values().nth(number)
+    }
+
+    /// The first packet whose tag isn't below this one.
+    pub(crate) fn from_tag(&self, tag: u64) -> Option<&KeptPacket>
+        ensures { option_copied result ≡ find (λ k. nat_le tag (tag_of k)) self.now }
+    {
+        let behind = (Bound::Included(tag), Bound::Unbounded);
+        match self.packets.range(behind).next() {
+            Some((_, kept)) => Some(kept),
+            None => None,
+        }
     }
 
     /// Keeps a packet whose tag no other has.

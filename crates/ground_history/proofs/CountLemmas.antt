@@ -1,5 +1,5 @@
 -- The count of a request packet is in its first four octets.
-use Rattle.std.proofs.Common.{arith, ◌≡◌, ℕ, ◌+◌, ◌<◌, ◌≤◌, ◌^◌, ◌%◌, refl, sym, ◌∙◌, ap, subst, length, List, [], ◌∷◌, Bool, true, false, nat_lt, Option, Some, None, Result, Ok, Err}
+use Rattle.std.proofs.Common.{arith, ◌≡◌, ℕ, ◌+◌, ◌≤◌, ◌%◌, refl, sym, ◌∙◌, ap, length, List, [], ◌∷◌, Bool, true, false, nat_lt, Option, Some, None, Result, Ok, Err}
 use Rattle.std.specs.Prelude.{take, drop, not}
 use Rattle.std.specs.Option.{option_or}
 use Rattle.std.proofs.lemmas.Bool.{not-true, ltb-false}

@@ -1,13 +1,12 @@
 -- Outcomes and room by the indexes, and the count of a request packet.
-use Rattle.std.proofs.Common.{arith, ◌≡◌, ℕ, ◌+◌, ◌-◌, ◌%◌, ◌^◌, ◌<◌, ◌≤◌, refl, sym, ◌∙◌, ap, subst, List, [], ◌∷◌, ◌++◌, length, map, Bool, true, false, nat_lt, cond, Option, Some, None, Result, Ok, Err}
+use Rattle.std.proofs.Common.{arith, ◌≡◌, ℕ, ◌+◌, ◌-◌, refl, sym, ◌∙◌, ap, List, [], ◌∷◌, ◌++◌, length, map, Bool, true, false, nat_lt, Option, Some, None, Result, Ok, Err}
 use Rattle.std.proofs.lemmas.Bool.Decides.{nat_tests}
-use Rattle.std.specs.Prelude.{nat_le, ◌&&◌, ◌||◌, ◌==◌, not, take, if◌then◌else◌}
+use Rattle.std.specs.Prelude.{◌&&◌, ◌||◌, ◌==◌, not, if◌then◌else◌}
 use Rattle.std.specs.List.{list_any}
 use Rattle.std.specs.Option.{option_map_or}
 use Rattle.std.specs.Result.{result_ok, result_map_both}
 use Rattle.hk_base.specs.TailoringParts.{TailoringParts}
 use Rattle.pus_packet.specs.declared.header.TcHeader.{TcHeader}
-use Rattle.st01_reports.specs.declared.verification.Cause.{Cause}
 use Rattle.st01_reports.specs.declared.verification.Verification.{Verification}
 use Rattle.st01_reports.specs.declared.verification.Verification.TheVariants as v
 use Rattle.pus_messages.specs.declared.message.MessageFault.{MessageFault}
@@ -15,9 +14,9 @@ use Rattle.pus_messages.specs.declared.message.Request.{Request}
 use Rattle.pus_messages.specs.declared.message.ReportBody.{ReportBody}
 use Rattle.pus_messages.specs.declared.message.ReportBody.TheVariants.{Verify, Hk, Stat, Par}
 use Rattle.pus_messages.specs.Messages.{protocol, request_of, cause_of_fault}
-use Rattle.ground_history.specs.Histories.{Kept, Sent, History, tag_of, greatest, is_own, is_known_begun, answer_by_header, sent_answer, sent_long, sent_short, with_sent}
-use Rattle.ground_history.specs.Evidence.{verifies, passes, has_report, shows_refused, shows_executed, shows_unstarted, is_completion}
-use Rattle.ground_history.specs.Indexes.{Says, is_on, is_started, done_steps, refused_steps, shown_at, is_marked, begins}
+use Rattle.ground_history.specs.Histories.{Kept, Sent, History, tag_of, greatest, is_own, is_known_begun, answer_by_header, sent_long, sent_short, with_sent}
+use Rattle.ground_history.specs.Evidence.{passes, has_report, shows_refused, shows_executed, shows_unstarted, is_completion}
+use Rattle.ground_history.specs.Indexes.{Says, is_on, is_started, done_steps, refused_steps, shown_at, is_marked}
 use Rattle.ground_history.specs.Ground.{Ground, IsAnswer, own_count, answer_by_count, is_room_for, with_history}
 use Rattle.ground_history.specs.declared.evidence.Evidence.{Evidence}
 use Rattle.ground_history.specs.declared.answer.SentFault.{SentFault}

@@ -1,8 +1,8 @@
 -- Requests by their numbers, with counts of 14 bits.
-use Rattle.std.proofs.Common.{arith, ◌≡◌, ℕ, zero, suc, ◌+◌, ◌-◌, ◌*◌, ◌/◌, ◌%◌, ◌<◌, ◌≤◌, refl, sym, ◌∙◌, ap, subst, List, [], ◌∷◌, ◌++◌, length, Bool, true, false, nat_lt, Option, Some, None, inl, inr, ◌⊎◌}
+use Rattle.std.proofs.Common.{arith, ◌≡◌, ℕ, zero, suc, ◌+◌, ◌-◌, ◌*◌, ◌%◌, ◌<◌, ◌≤◌, sym, ◌∙◌, ap, subst, List, [], ◌∷◌, ◌++◌, length, Bool, true, false, nat_lt, Some, None, inl, inr, ◌⊎◌}
 use Rattle.std.proofs.lemmas.Bool.{cases_lt, cases_eq, and_left, ne_eqb}
 use Rattle.std.proofs.lemmas.Option.{same_Some}
-use Rattle.std.specs.Prelude.{◌&&◌, ◌||◌, not, ◌==◌, take, slice_get}
+use Rattle.std.specs.Prelude.{◌||◌, not, ◌==◌, take, slice_get}
 use Rattle.hk_base.specs.Fields.{number_of}
 use Rattle.hk_base.specs.declared.types.RequestId.{RequestId}
 use Rattle.ground_history.specs.Histories.{Sent, last_number}

@@ -1,5 +1,5 @@
 -- The indexes say what the kept packets show, with each packet that is kept.
-use Rattle.std.proofs.Common.{arith, ◌≡◌, ℕ, suc, ◌+◌, ◌-◌, ◌^◌, ◌<◌, ◌≤◌, refl, sym, ◌∙◌, ap, subst, List, [], ◌∷◌, map, max, min, Bool, true, false, nat_lt, cond, Option, Some, None}
+use Rattle.std.proofs.Common.{arith, ◌≡◌, ℕ, ◌+◌, ◌-◌, ◌^◌, ◌<◌, ◌≤◌, refl, sym, ◌∙◌, ap, List, [], ◌∷◌, map, max, min, Bool, true, false, nat_lt, cond, Option, Some, None}
 use Rattle.std.proofs.lemmas.Bool.{leb-true, leb-false, le-leb, lt-leb, ltb-true, ltb-false, lt-ltb}
 use Rattle.std.proofs.lemmas.Bool.Decides.{nat_tests}
 use Rattle.std.specs.Prelude.{filter, nat_le, ◌&&◌, ◌||◌, ◌==◌, if◌then◌else◌}
@@ -12,7 +12,7 @@ use Rattle.pus_messages.specs.declared.message.ReportBody.TheVariants.{Verify, H
 use Rattle.ground_history.specs.Histories.{Kept, tag_of, greatest, insert_kept, is_begun_report}
 use Rattle.ground_history.specs.Evidence.{least, verifies, passes, comes_before, comes_after, is_acceptance, is_start, is_completion, shows_accepted, shows_barred, shows_unstarted}
 use Rattle.ground_history.specs.Stairs.{height_at}
-use Rattle.ground_history.specs.Indexes.{Says, SaysMore, SaysSame, place_before, place_after, with_step, mirrored, tag_at_height, shown_by, shown_of, shown_at, either_shown, is_on, is_started, begins, done_steps, refused_steps, is_marked}
+use Rattle.ground_history.specs.Indexes.{Says, SaysMore, SaysSame, place_before, place_after, with_step, mirrored, tag_at_height, shown_by, shown_of, shown_at, either_shown, is_on, is_started, begins, done_steps, refused_steps}
 use Rattle.ground_history.specs.declared.evidence.Evidence.{Evidence}
 use Rattle.ground_history.specs.declared.shown.Shown.{Shown}
 use Rattle.ground_history.proofs.KeptLemmas.{greatest-insert_kept}

@@ -1,8 +1,8 @@
 -- A verification report, another report, and a packet without a number.
-use Rattle.std.proofs.Common.{◌≡◌, ◌<◌, ◌^◌, ℕ, ◌∙◌, sym, ap, subst, Option, Some}
+use Rattle.std.proofs.Common.{◌<◌, ◌^◌, ℕ, ◌∙◌, sym, ap, subst, Option}
 use Rattle.std.specs.Option.{IfSome}
 use Rattle.pus_messages.specs.declared.message.Report.{Report}
-use Rattle.ground_history.proofs.SayLemmas.{says-kept, says-unverified, says-unnumbered, other-from, IsOther}
+use Rattle.ground_history.proofs.SayLemmas.{says-kept, says-unverified, says-unnumbered, other-from}
 use Rattle.ground_history.proofs.evidence.Evidence.note_kept.Goals as goal
 
 pub returns-in-Verify : goal.returns-in-Verify

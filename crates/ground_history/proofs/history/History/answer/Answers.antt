@@ -1,4 +1,4 @@
-use Rattle.std.proofs.Common.{◌≡◌, sym, ◌∙◌, ap, subst}
+use Rattle.std.proofs.Common.{sym, ◌∙◌, ap}
 use Rattle.pus_messages.specs.Messages.{protocol}
 use Rattle.ground_history.specs.Ground.{answer_by_count}
 use Rattle.ground_history.proofs.OutcomeLemmas.{answer-is}

@@ -1,4 +1,4 @@
-use Rattle.std.proofs.Common.{◌≡◌, ◌∙◌, ◌++◌, ◌∷◌, [], sym, ap}
+use Rattle.std.proofs.Common.{◌∙◌, ◌++◌, ◌∷◌, [], ap}
 use Rattle.ground_history.specs.Histories.{Sent}
 use Rattle.ground_history.specs.contracts.history.History.{the_view}
 use Rattle.ground_history.proofs.OutcomeLemmas.{appended}

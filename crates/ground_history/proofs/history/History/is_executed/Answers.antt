@@ -1,4 +1,4 @@
-use Rattle.std.proofs.Common.{◌≡◌, ◌∙◌, ap, subst, Bool}
+use Rattle.std.proofs.Common.{◌∙◌, ap, subst, Bool}
 use Rattle.std.specs.Prelude.{◌||◌, ◌&&◌}
 use Rattle.ground_history.specs.Evidence.{is_alone}
 use Rattle.ground_history.specs.Ground.{Ground}

@@ -1,4 +1,4 @@
-use Rattle.std.proofs.Common.{◌≡◌, sym, ◌∙◌}
+use Rattle.std.proofs.Common.{sym, ◌∙◌}
 use Rattle.ground_history.proofs.KeptMapLemmas.{from-is, from-first, from-none}
 use Rattle.ground_history.proofs.kept.KeptPackets.from_tag.Goals as goal
 

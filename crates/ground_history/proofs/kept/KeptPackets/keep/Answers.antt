@@ -1,8 +1,8 @@
-use Rattle.std.proofs.Common.{arith, ◌≡◌, ℕ, List, map, max, sym, ◌∙◌, ap, subst, Option, None}
+use Rattle.std.proofs.Common.{◌≡◌, sym, ◌∙◌, ap, subst, None}
 use Rattle.std.specs.Prelude.{find, ◌==◌}
-use Rattle.ground_history.specs.Histories.{Kept, tag_of, greatest, insert_kept}
+use Rattle.ground_history.specs.Histories.{tag_of, insert_kept}
 use Rattle.ground_history.specs.Ground.{IsByTag, packets_of}
-use Rattle.ground_history.proofs.KeptMapLemmas.{by-tag-insert, packets-insert, newest-insert, newest-is}
+use Rattle.ground_history.proofs.KeptMapLemmas.{by-tag-insert, packets-insert, newest-is}
 use Rattle.ground_history.proofs.kept.KeptPackets.keep.Goals as goal
 
 pub invariant_of-self-2 : goal.invariant_of-self-2

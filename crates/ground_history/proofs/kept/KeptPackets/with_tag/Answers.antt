@@ -1,4 +1,4 @@
-use Rattle.std.proofs.Common.{◌≡◌, sym, ◌∙◌}
+use Rattle.std.proofs.Common.{◌∙◌}
 use Rattle.ground_history.proofs.KeptMapLemmas.{found-by-tag}
 use Rattle.ground_history.proofs.kept.KeptPackets.with_tag.Goals as goal
 

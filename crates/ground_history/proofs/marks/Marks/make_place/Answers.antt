@@ -1,5 +1,4 @@
-use Rattle.std.proofs.Common.{◌≡◌, ℕ, List, Bool, true, false, sym, ◌∙◌, subst, refl}
-use Rattle.ground_history.specs.Indexes.{is_marked, HasMark}
+use Rattle.std.proofs.Common.{false, sym, ◌∙◌}
 use Rattle.ground_history.proofs.MarkLemmas.{marked-same, places-stay}
 use Rattle.ground_history.proofs.marks.Marks.make_place.Goals as goal
 

@@ -1,7 +1,7 @@
-use Rattle.std.proofs.Common.{arith, ◌≡◌, ℕ, ◌<◌, ◌+◌, sym, ◌∙◌, subst, ap, inl, inr, get_or, length}
+use Rattle.std.proofs.Common.{arith, ◌<◌, sym, ◌∙◌, subst, ap, inl, inr, get_or, length}
 use Rattle.std.proofs.lemmas.List.{get_or_default}
 use Rattle.std.proofs.lemmas.Bool.{cases_eq}
-use Rattle.ground_history.specs.Indexes.{is_marked, HasMark}
+use Rattle.ground_history.specs.Indexes.{HasMark}
 use Rattle.ground_history.proofs.marks.Marks.make_room.Goals as goal
 
 pub loop-step-preserved : goal.loop-step-preserved

@@ -1,5 +1,4 @@
-use Rattle.std.proofs.Common.{◌≡◌, ℕ, List, Bool, true, false, sym, ◌∙◌, subst, refl}
-use Rattle.ground_history.specs.Indexes.{is_marked, HasMark}
+use Rattle.std.proofs.Common.{true}
 use Rattle.ground_history.proofs.MarkLemmas.{marked-more, places-stay}
 use Rattle.ground_history.proofs.marks.Marks.mark_one.Goals as goal
 

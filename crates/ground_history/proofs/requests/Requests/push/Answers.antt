@@ -1,4 +1,4 @@
-use Rattle.std.proofs.Common.{arith, ◌≡◌, ℕ, ◌+◌, sym, ◌∙◌, subst, length}
+use Rattle.std.proofs.Common.{arith, sym, subst, length}
 use Rattle.ground_history.specs.Ground.{IsCounted, AreCounted}
 use Rattle.ground_history.proofs.RequestLemmas.{counted-more}
 use Rattle.ground_history.proofs.requests.Requests.push.Goals as goal

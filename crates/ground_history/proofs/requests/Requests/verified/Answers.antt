@@ -1,7 +1,4 @@
-use Rattle.std.proofs.Common.{arith, ◌≡◌, ℕ, ◌+◌, ◌-◌, ◌*◌, ◌/◌, ◌%◌, ◌≤◌, length, sym, ◌∙◌, ap, subst, Some}
-use Rattle.std.specs.Prelude.{slice_get}
-use Rattle.ground_history.specs.Histories.{last_number}
-use Rattle.ground_history.specs.Ground.{is_verified_by}
+use Rattle.std.proofs.Common.{arith, ◌+◌, ◌-◌, ◌*◌, ◌%◌, sym, ◌∙◌}
 use Rattle.ground_history.proofs.RequestLemmas.{last-verified, none-next, none-turn, none-left}
 use Rattle.ground_history.proofs.requests.Requests.verified.Goals as goal
 

@@ -1,4 +1,4 @@
-use Rattle.std.proofs.Common.{◌≡◌, ℕ, ◌+◌, ◌-◌, ◌*◌, ◌/◌, ◌%◌, ◌≤◌, length}
+use Rattle.std.proofs.Common.{◌+◌, ◌-◌, ◌*◌, ◌/◌, ◌≤◌, length}
 use Rattle.ground_history.proofs.RequestLemmas.{NoneFrom}
 use Rattle.ground_history.proofs.requests.Requests.verified.Given as goal
 

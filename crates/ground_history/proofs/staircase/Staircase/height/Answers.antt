@@ -1,5 +1,5 @@
 -- The last step up to the place is as high as the place.
-use Rattle.std.proofs.Common.{◌≡◌, ℕ, List, refl, sym, ◌∙◌}
+use Rattle.std.proofs.Common.{sym, ◌∙◌}
 use Rattle.ground_history.proofs.StairLemmas.{height-last, height-none, is-upto}
 use Rattle.ground_history.proofs.staircase.Staircase.height.Goals as goal
 

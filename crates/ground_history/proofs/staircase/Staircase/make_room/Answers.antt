@@ -1,6 +1,6 @@
 -- A step as high as what stands at its place changes no height.
-use Rattle.std.proofs.Common.{◌≡◌, ℕ, List, refl, sym, ◌∙◌, ap, subst}
-use Rattle.ground_history.specs.Stairs.{height_at, IsRising}
+use Rattle.std.proofs.Common.{◌≡◌, sym, subst}
+use Rattle.ground_history.specs.Stairs.{height_at}
 use Rattle.ground_history.proofs.StairLemmas.{room-rising, room-height}
 use Rattle.ground_history.proofs.staircase.Staircase.make_room.Goals as goal
 

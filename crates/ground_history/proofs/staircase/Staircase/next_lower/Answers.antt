@@ -1,8 +1,5 @@
 -- The first step behind the place, among steps that rise.
-use Rattle.std.proofs.Common.{arith, ◌≡◌, ◌<◌, ◌≤◌, ℕ, List, refl, sym, ◌∙◌, subst, Option, None}
-use Rattle.std.specs.List.{AllByRecursion}
-use Rattle.std.specs.Option.{MatchOption}
-use Rattle.ground_history.specs.Stairs.{IsLower}
+use Rattle.std.proofs.Common.{arith, ◌≤◌, sym, ◌∙◌}
 use Rattle.ground_history.proofs.StairLemmas.{behind-none, behind-high, is-behind}
 use Rattle.ground_history.proofs.staircase.Staircase.next_lower.Goals as goal
 

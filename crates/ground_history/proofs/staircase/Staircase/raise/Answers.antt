@@ -1,6 +1,6 @@
 -- A height that is put where it fits.
-use Rattle.std.proofs.Common.{arith, ◌≡◌, ◌<◌, ◌≤◌, ℕ, List, ◌∷◌, refl, sym, ◌∙◌, ap, subst}
-use Rattle.ground_history.specs.Stairs.{height_at, IsRising, FitsBetween}
+use Rattle.std.proofs.Common.{arith, ◌<◌, ◌≤◌, sym, subst}
+use Rattle.ground_history.specs.Stairs.{height_at, FitsBetween}
 use Rattle.ground_history.proofs.StairLemmas.{height-idle, raised-fits, raised-rising, raised-heights}
 use Rattle.ground_history.proofs.staircase.Staircase.raise.Goals as goal
 

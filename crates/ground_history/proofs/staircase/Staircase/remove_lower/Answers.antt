@@ -1,5 +1,5 @@
 -- A step that isn't higher than the one before it is not missed.
-use Rattle.std.proofs.Common.{◌≡◌, ◌<◌, ℕ, List, refl, sym, subst}
+use Rattle.std.proofs.Common.{sym, subst}
 use Rattle.ground_history.specs.Stairs.{IsRising, HasStep, IsLower}
 use Rattle.ground_history.proofs.StairLemmas.{rising-remove, removed-heights, removed-step}
 use Rattle.ground_history.proofs.staircase.Staircase.remove_lower.Goals as goal

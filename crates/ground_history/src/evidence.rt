@@ -147,10 +147,8 @@ fn place_before(request: u64, report: &Verification) -> Option<u64>
     ensures { result ≡ indexes.place_before request report.now }
 {
     match report {
-        Verification::Accepted(_)
-        | Verification::Refused(_, _)
-        | Verification::Started(_)
-        | Verification::NotStarted(_, _) => Some(request),
+        Verification::Accepted(_) | Verification::Refused(_, _) => Some(request),
+        Verification::Started(_) | Verification::NotStarted(_, _) => Some(request),
         Verification::Completed(_) | Verification::Incomplete(_, _, _) => Some(request + 1),
         _ => None,
     }

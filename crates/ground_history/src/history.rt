@@ -10,10 +10,10 @@ ghost use Rattle.ground_history.specs.Ground.{HasNumber, IsAnswer, IsCountOf, wi
 use crate::answer::{GotKind, Outcome, SentFault};
 use crate::evidence::Evidence;
 use crate::kept::{KeptPacket, KeptPackets};
-use crate::reception::{Received, asked, is_alone, receive, subject_of};
+use crate::asked::{asked, is_alone};
 use crate::requests::{Requests, SentRequest};
 use hk_base::{Items, Memory, RequestId, Tailoring};
-use pus_messages::{Report, ReportBody, Request};
+use pus_messages::{Reception, Report, ReportBody, Request, receive, subject};
 use pus_packet::split_tc;
 use std::alloc::Global;
 use std::marker::Model;
@@ -83,10 +83,10 @@ impl History {
         ensures state { self.new ≡ with_history self.old (got_result (protocol self.old.tailoring) self.old.history bytes.now result) }
     {
         match receive(self.alloc, &self.tailoring, bytes)? {
-            Received::Foreign(apid) => Ok(GotKind::Foreign(apid)),
-            Received::Skipped(service, subtype) => Ok(GotKind::Skipped(service, subtype)),
-            Received::Unread => Ok(GotKind::Unread),
-            Received::Readable(report) => self.got_report(bytes, report),
+            Reception::Foreign(apid) => Ok(GotKind::Foreign(apid)),
+            Reception::Skipped(service, subtype) => Ok(GotKind::Skipped(service, subtype)),
+            Reception::Unread => Ok(GotKind::Unread),
+            Reception::Readable(report) => self.got_report(bytes, report),
         }
     }
 
@@ -184,13 +184,14 @@ impl History {
         self.known
     }
 
+    /// The tailoring of the board.
     pub fn tailoring(&self) -> &Tailoring
         ensures { result.now ≡ self.now.tailoring }
     {
         &self.tailoring
     }
 
-    /// Whether the start of the session is a long one's.
+    /// Whether the session is a long one, in which counts are used again.
     pub fn long(&self) -> bool
         ensures { result ≡ self.now.history.long }
     {
@@ -391,7 +392,7 @@ impl History {
         let ReportBody::Verify(verification) = &report.body else {
             return Ok(None);
         };
-        let id = subject_of(verification);
+        let id = subject(verification);
         match self.requests.verified(self.long, id, report.header.tag) {
             Some(number) => Ok(Some(number)),
             None => Err(id),

@@ -6,3 +6,4 @@ pub mod CountLemmas
 pub mod PayloadLaws
 pub mod SpellingLaws
 pub mod WindowLemmas
+pub mod PackingLemmas

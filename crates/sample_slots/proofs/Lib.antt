@@ -7,3 +7,4 @@ pub mod PayloadLaws
 pub mod SpellingLaws
 pub mod WindowLemmas
 pub mod PackingLemmas
+pub mod WritingLemmas

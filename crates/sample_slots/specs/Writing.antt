@@ -37,8 +37,8 @@ abbrev pub GroupsFit : TailoringParts → List Group → List ℤ → Type 0
 GroupsFit t [] values = ⊤
 GroupsFit t (g ∷ gs) values = AreFitting t g.params (take (length g.params) values) × GroupsFit t gs (drop (length g.params) values)
 
--- Writing these groups took octets and values to later ones: whatever groups follow, the bits are those of the whole, and
--- the values that are left fit what follows.
-pub record Writes (t : TailoringParts) (gs : List Group) (old : List ℕ) (values : List ℤ) (new : List ℕ) (rest : List ℤ) : Type 0 where
-  pub bits : (more : List Group) → bits_of new ++ payload_bits t more rest ≡ bits_of old ++ payload_bits t (gs ++ more) values
-  pub fit : (more : List Group) → GroupsFit t (gs ++ more) values → GroupsFit t more rest
+-- Writing took octets and values to later ones, and of all these groups some are left: whatever groups follow, the bits of
+-- the whole stay the same, and values that fit the whole fit what is left of it.
+pub record Writes (t : TailoringParts) (all left : List Group) (old : List ℕ) (values : List ℤ) (new : List ℕ) (rest : List ℤ) : Type 0 where
+  pub bits : (more : List Group) → bits_of new ++ payload_bits t (left ++ more) rest ≡ bits_of old ++ payload_bits t (all ++ more) values
+  pub fit : (more : List Group) → GroupsFit t (all ++ more) values → GroupsFit t (left ++ more) rest

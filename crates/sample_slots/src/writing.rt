@@ -1,9 +1,9 @@
 //! The payload of values.
-ghost use Rattle.std.specs.Prelude.{◌≡◌, ◌++◌, ℕ, List, [], ◌∷◌, Ok, true, filter_map, flat_map, IfOk, OnOk, OnErr, ℤ, take, length};
+ghost use Rattle.std.specs.Prelude.{◌≡◌, ◌++◌, ℕ, List, [], ◌∷◌, Ok, true, filter_map, flat_map, IfOk, OnOk, OnErr, take, length};
 ghost use Rattle.hk_base.specs.Definitions.{IsWellFormed};
 ghost use Rattle.hk_base.specs.Fit.{IsFitShape};
 ghost use Rattle.hk_base.specs.Parameters as parameters;
-ghost use Rattle.hk_base.specs.Payload.{Group, repetitions, bits_of, groups, places, values_bits, value_bits, payload_read, AllFit, IsPayload};
+ghost use Rattle.hk_base.specs.Payload.{Group, repetitions, bits_of, groups, places, values_bits, payload_bits, payload_read, AllFit, IsPayload};
 ghost use Rattle.sample_slots.specs.Reading.{array_groups};
 ghost use Rattle.sample_slots.specs.Writing.{IsPending, written, Keeps, AreFitting, GroupsFit, Writes};
 
@@ -26,11 +26,11 @@ pub fn write_payload(
 {
     out.reserve(tailoring.payload_size(def) as usize)?;
     let kept = out.len();
-    let written = write_groups(tailoring, def, values, out);
-    if written.is_err() {
+    if let Err(memory) = write_groups(tailoring, def, values, out) {
         out.truncate(kept);
+        return Err(memory);
     }
-    written
+    Ok(())
 }
 
 /// Appends the groups of a definition.
@@ -41,7 +41,7 @@ fn write_groups(
     out: &mut Vec<u8>,
 ) -> Result<(), Memory>
     requires fit { AllFit tailoring.now (places def.now def.now.interval) values.now }
-    ensures bits { OnOk result ((rest : List ℤ) × Writes tailoring.now (groups def.now) out.old.items values.now out.new.items rest) }
+    ensures bits { OnOk result (bits_of out.new.items ≡ bits_of out.old.items ++ payload_bits tailoring.now (groups def.now) values.now) }
     ensures kept { Keeps out.old.items out.new.items }
 {
     let rest = write_group(tailoring, def.simple.as_slice(), values, out)?;
@@ -56,7 +56,7 @@ fn write_arrays(
     out: &mut Vec<u8>,
 ) -> Result<(), Memory>
     requires fit { (interval : ℕ) × GroupsFit tailoring.now (flat_map (array_groups interval) arrays.now) values.now }
-    ensures bits { OnOk result ((interval : ℕ) → (rest : List ℤ) × Writes tailoring.now (flat_map (array_groups interval) arrays.now) out.old.items values.now out.new.items rest) }
+    ensures bits { OnOk result ((interval : ℕ) → bits_of out.new.items ≡ bits_of out.old.items ++ payload_bits tailoring.now (flat_map (array_groups interval) arrays.now) values.now) }
     ensures kept { Keeps out.old.items out.new.items }
 {
     let mut rest = values;
@@ -74,7 +74,7 @@ fn write_array<'a>(
     out: &mut Vec<u8>,
 ) -> Result<&'a [Value], Memory>
     requires fit { (spacing : ℕ) × (more : List Group) × GroupsFit tailoring.now (repetitions array.now.params spacing array.now.repetition ++ more) values.now }
-    ensures bits { IfOk result (λ rest. (spacing : ℕ) → Writes tailoring.now (repetitions array.now.params spacing array.now.repetition) out.old.items values.now out.new.items rest.now) }
+    ensures bits { IfOk result (λ rest. (spacing : ℕ) → Writes tailoring.now (repetitions array.now.params spacing array.now.repetition) [] out.old.items values.now out.new.items rest.now) }
     ensures kept { Keeps out.old.items out.new.items }
 {
     let mut rest = values;
@@ -92,7 +92,7 @@ fn write_group<'a>(
     out: &mut Vec<u8>,
 ) -> Result<&'a [Value], Memory>
     requires fit { AreFitting tailoring.now ids.now (take (length ids.now) values.now) }
-    ensures bits { IfOk result (λ rest. (lag : ℕ) → Writes tailoring.now (record { lag = lag; params = ids.now } ∷ []) out.old.items values.now out.new.items rest.now) }
+    ensures bits { IfOk result (λ rest. (lag : ℕ) → Writes tailoring.now (record { lag = lag; params = ids.now } ∷ []) [] out.old.items values.now out.new.items rest.now) }
     ensures kept { Keeps out.old.items out.new.items }
 {
     let (own, rest) = values.split_at(ids.len());
@@ -135,7 +135,7 @@ fn write_value(
     requires shape { IsFitShape param.now }
     requires fits { parameters.fits param.now value ≡ true }
     requires pending { IsPending pending }
-    ensures bits { IfOk result (λ next. written out.new.items next ≡ written out.old.items pending ++ value_bits param.now value) }
+    ensures bits { IfOk result (λ next. written out.new.items next ≡ written out.old.items pending ++ parameters.value_bits param.now value) }
     ensures pending { IfOk result (λ next. IsPending next) }
     ensures kept { Keeps out.old.items out.new.items }
 {

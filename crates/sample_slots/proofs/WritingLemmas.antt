@@ -118,8 +118,7 @@ group-written t ids old mid new values own rest p lag front back fit pending val
 
     sizes : 8 * length mid + p.count ≡ 8 * length old + length (values_bits (filter_map (parameter t) ids) own)
     sizes =
-        omega
-        (
+        omega (
           arith,
           ap (λ (xs : List ℕ). length xs) values_written,
           length-append (bits_of mid) (digits 2 p.count p.held),

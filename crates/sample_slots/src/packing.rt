@@ -44,11 +44,11 @@ pub(crate) fn put_bits(
     ensures kept { Keeps out.old.items out.new.items }
 {
     let whole = pending.held * (1 << width) + value;
-    let count = pending.count + width;
-    let behind = count % 8;
-    put_octets(whole >> behind, count / 8, out)?;
-    let held = whole & ((1 << behind) - 1);
-    Ok(Pending { held, count: behind })
+    let bits = pending.count + width;
+    let count = bits % 8;
+    put_octets(whole >> count, bits / 8, out)?;
+    let held = whole & ((1 << count) - 1);
+    Ok(Pending { held, count })
 }
 
 /// Appends the number in so many octets, of which there may be none.

@@ -8,8 +8,7 @@ use Rattle.sample_slots.proofs.writing.write_payload.Goals as goal
 payload_written : (c : goal.In_default) → (octets : List ℕ) × (c.write_groups.new.out.items ≡ c.args.out.now.items ++ octets) × IsPayload c.args.tailoring.now c.args.def.now c.args.values.now octets
 payload_written c =
     let kept = c.write_groups.ensures.kept in
-    let bits = payload_bits c.args.tailoring.now (groups c.args.def.now) c.args.values.now in
-    (
+    let bits = payload_bits c.args.tailoring.now (groups c.args.def.now) c.args.values.now in (
       kept.0,
       kept.1 ∙ ap (λ (xs : List ℕ). xs ++ kept.0) c.reserve.ensures.items,
       record {

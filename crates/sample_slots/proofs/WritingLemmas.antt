@@ -1,5 +1,5 @@
 -- Writing value by value, and group by group.
-use Rattle.std.proofs.Common.{◌≡◌, ◌+◌, ◌-◌, ◌*◌, ◌/◌, ◌%◌, ◌<◌, ◌≤◌, ℕ, zero, suc, ℤ, List, [], ◌∷◌, ◌++◌, length, take, drop, get_or, Bool, true, false, Option, Some, None, Result, Ok, Err, refl, sym, ap, subst, ◌∙◌, arith, append_assoc, append-nil}
+use Rattle.std.proofs.Common.{◌≡◌, ◌+◌, ◌-◌, ◌*◌, ◌/◌, ◌%◌, ◌<◌, ◌≤◌, ℕ, suc, ℤ, List, [], ◌∷◌, ◌++◌, length, take, drop, get_or, true, false, Option, Some, None, Result, Ok, Err, refl, sym, ap, subst, ◌∙◌, arith, append_assoc, append-nil}
 use Rattle.std.specs.Prelude.{replicate, flat_map, filter_map, sum_by, is_some, IsTrue}
 use Rattle.std.specs.List.{cons_option}
 use Rattle.std.specs.Option.{option_map_or}
@@ -11,7 +11,7 @@ use Rattle.std.proofs.lemmas.Grind.{flat_map-append}
 use Rattle.hk_base.specs.TailoringParts.{TailoringParts}
 use Rattle.hk_base.specs.Fields.{digits, twos_complement}
 use Rattle.hk_base.specs.Parameters.{parameter, fits, value_bits}
-use Rattle.hk_base.specs.Payload.{Group, repetitions, simple_group, groups, places, group_params, group_octets, bits_of, values_bits, padded_bits, payload_bits, AllFit}
+use Rattle.hk_base.specs.Payload.{Group, repetitions, simple_group, group_octets, bits_of, values_bits, padded_bits, payload_bits, AllFit}
 use Rattle.hk_base.specs.declared.types.Param.{Param}
 use Rattle.hk_base.specs.declared.types.Place.{Place}
 use Rattle.hk_base.proofs.FieldLemmas.{length-digits}

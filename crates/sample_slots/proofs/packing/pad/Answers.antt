@@ -1,4 +1,4 @@
-use Rattle.std.proofs.Common.{◌≡◌, ◌++◌, ◌+◌, ◌-◌, ◌%◌, ℕ, List, replicate, arith, ap, sym, ◌∙◌, append-nil}
+use Rattle.std.proofs.Common.{◌≡◌, ◌++◌, ◌-◌, ◌%◌, ℕ, List, arith, ap, sym, ◌∙◌, append-nil}
 use Rattle.hk_base.specs.Fields.{digits}
 use Rattle.hk_base.specs.Payload.{bits_of}
 use Rattle.sample_slots.specs.Writing.{written}

@@ -1,6 +1,6 @@
-use Rattle.std.proofs.Common.{◌≡◌, ◌++◌, ◌+◌, ◌-◌, ◌*◌, ◌/◌, ◌%◌, ◌^◌, ◌<◌, ◌≤◌, ℕ, bit_and, arith, ap, sym, subst, ◌∙◌}
+use Rattle.std.proofs.Common.{◌≡◌, ◌++◌, ◌+◌, ◌-◌, ◌*◌, ◌/◌, ◌%◌, ◌^◌, ◌<◌, ℕ, bit_and, arith, ap, sym, subst, ◌∙◌}
 use Rattle.std.proofs.lemmas.Nat.{one_shl, and_mask}
-use Rattle.hk_base.specs.Fields.{digits, octets_of}
+use Rattle.hk_base.specs.Fields.{digits}
 use Rattle.hk_base.specs.Payload.{bits_of}
 use Rattle.sample_slots.proofs.PackingLemmas.{packed, whole-small, high-fits}
 use Rattle.sample_slots.proofs.packing.put_bits.Goals as goal

@@ -1,8 +1,7 @@
 use Rattle.std.proofs.Common.{◌≡◌, ◌∙◌, ℕ, ap, get_or, lit≤, lit<, refl, sym, subst, List, [], ◌∷◌, None, true, rules}
 use Rattle.std.specs.List.{IsDistinct}
-use Rattle.hk_base.specs.Fit.{IsFit, IsFitWidths, IsFitParam}
+use Rattle.hk_base.specs.Fit.{IsFit, IsFitWidths}
 use Rattle.hk_base.specs.TailoringParts.{TailoringParts}
-use Rattle.hk_base.specs.declared.types.Form.{Form}
 use Rattle.hk_base.specs.declared.types.Form.TheVariants.{Unsigned, Signed, Boolean}
 use Rattle.hk_base.specs.declared.types.Kind.TheVariants.{Housekeeping}
 use Rattle.hk_base.specs.declared.types.Param.{Param}

@@ -1,6 +1,5 @@
-use Rattle.std.proofs.Common.{◌≡◌, ◌+◌, ◌-◌, ◌*◌, ◌<◌, ◌∷◌, [], ℕ, List, arith, ap, sym, subst, ◌∙◌}
-use Rattle.hk_base.specs.Payload.{Group, repetitions}
-use Rattle.sample_slots.specs.Writing.{Writes}
+use Rattle.std.proofs.Common.{◌≡◌, ◌+◌, ◌-◌, ◌*◌, ◌<◌, ◌∷◌, [], ℕ, List, arith, ap, sym, ◌∙◌}
+use Rattle.hk_base.specs.Payload.{repetitions}
 use Rattle.sample_slots.proofs.PackingLemmas.{keeps-on}
 use Rattle.sample_slots.proofs.ReadingLemmas.{repetitions-more}
 use Rattle.sample_slots.proofs.WritingLemmas.{repetition-fit, writes-more, writes-end}

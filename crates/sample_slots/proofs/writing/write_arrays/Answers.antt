@@ -1,4 +1,4 @@
-use Rattle.std.proofs.Common.{◌≡◌, ◌+◌, ◌/◌, ◌++◌, [], ℕ, List, drop, flat_map, ap, sym, subst, ◌∙◌}
+use Rattle.std.proofs.Common.{◌≡◌, ◌+◌, ◌/◌, [], List, drop, flat_map, ap, subst}
 use Rattle.std.proofs.lemmas.List.{drop_all}
 use Rattle.hk_base.specs.Payload.{Group}
 use Rattle.hk_base.specs.declared.types.SuperList.{SuperList}

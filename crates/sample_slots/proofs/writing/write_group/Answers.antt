@@ -1,4 +1,4 @@
-use Rattle.std.proofs.Common.{sym, subst, ap}
+use Rattle.std.proofs.Common.{sym, subst}
 use Rattle.sample_slots.specs.Writing.{AreFitting}
 use Rattle.sample_slots.proofs.WritingLemmas.{fit-enough, group-written}
 use Rattle.sample_slots.proofs.writing.write_group.Goals as goal

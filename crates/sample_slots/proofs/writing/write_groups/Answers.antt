@@ -1,8 +1,8 @@
-use Rattle.std.proofs.Common.{◌≡◌, ◌++◌, [], ℕ, List, flat_map, ap, sym, subst, ◌∙◌}
-use Rattle.hk_base.specs.Payload.{Group, groups, simple_group, bits_of, payload_bits}
+use Rattle.std.proofs.Common.{◌≡◌, ◌++◌, ℕ, List, flat_map, ap, sym, subst, ◌∙◌}
+use Rattle.hk_base.specs.Payload.{groups, bits_of, payload_bits}
 use Rattle.hk_base.specs.declared.types.SuperList.{SuperList}
 use Rattle.sample_slots.specs.Reading.{array_groups}
-use Rattle.sample_slots.specs.Writing.{GroupsFit, Writes}
+use Rattle.sample_slots.specs.Writing.{GroupsFit}
 use Rattle.sample_slots.proofs.WritingLemmas.{groups-fit, simple-fit, writes-simple, on-ok}
 use Rattle.sample_slots.proofs.writing.write_groups.Goals as goal
 

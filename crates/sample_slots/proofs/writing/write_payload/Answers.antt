@@ -1,5 +1,5 @@
-use Rattle.std.proofs.Common.{◌≡◌, ◌++◌, ℕ, List, ap, sym, ◌∙◌}
-use Rattle.hk_base.specs.Payload.{groups, bits_of, payload_bits, IsPayload}
+use Rattle.std.proofs.Common.{◌≡◌, ◌++◌, ℕ, List, ap, ◌∙◌}
+use Rattle.hk_base.specs.Payload.{groups, payload_bits, IsPayload}
 use Rattle.sample_slots.proofs.WritingLemmas.{appended}
 use Rattle.sample_slots.proofs.PayloadLaws.{payload-read}
 use Rattle.sample_slots.proofs.writing.write_payload.Goals as goal

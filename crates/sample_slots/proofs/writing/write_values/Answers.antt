@@ -1,7 +1,6 @@
 use Rattle.std.proofs.Common.{◌≡◌, ◌+◌, ◌++◌, ℕ, ℤ, List, FitsSigned, drop, get_or, filter_map, rules, ap, sym, ◌∙◌}
 use Rattle.std.specs.Int.{w128}
 use Rattle.std.proofs.lemmas.Int.{to_z-of_z}
-use Rattle.std.proofs.lemmas.List.{drop_all}
 use Rattle.hk_base.specs.Parameters.{parameter, fits, value_bits}
 use Rattle.hk_base.specs.Payload.{bits_of, values_bits}
 use Rattle.sample_slots.specs.Writing.{written}

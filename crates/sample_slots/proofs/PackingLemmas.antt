@@ -1,10 +1,10 @@
 -- Numbers as bits behind other bits.
-use Rattle.std.proofs.Common.{◌≡◌, ◌+◌, ◌-◌, ◌*◌, ◌/◌, ◌%◌, ◌^◌, ◌<◌, ◌≤◌, ℕ, zero, suc, ℤ, pos, negsuc, List, [], ◌∷◌, ◌++◌, refl, sym, ap, subst, ◌∙◌, arith, append_assoc, append-nil}
+use Rattle.std.proofs.Common.{◌≡◌, ◌+◌, ◌-◌, ◌*◌, ◌/◌, ◌%◌, ◌^◌, ◌<◌, ◌≤◌, ℕ, zero, suc, ℤ, pos, negsuc, List, ◌∷◌, ◌++◌, refl, sym, ap, subst, ◌∙◌, arith, append_assoc}
 use Rattle.std.specs.Prelude.{replicate}
 use Rattle.std.specs.Int.{cast_unsigned, w128}
 use Rattle.std.proofs.lemmas.Nat.{pow-add, div-mul-add, mod-mul-add, mul-add-lt, div-add-mod'}
 use Rattle.std.proofs.lemmas.Grind.{flat_map-append}
-use Rattle.std.proofs.Math.Nat.{div-div-eq-div-mul, zero-div, div-lt_iff_lt-mul, mod-eq_of_lt, pow-le-pow_right}
+use Rattle.std.proofs.Math.Nat.{div-div-eq-div-mul, zero-div, div-lt_iff_lt-mul, mod-eq_of_lt}
 use Rattle.hk_base.specs.Fields.{digits, octets_of, twos_complement}
 use Rattle.hk_base.specs.Payload.{bits_of}
 use Rattle.hk_base.proofs.FieldLemmas.{pow_pos}
@@ -58,11 +58,6 @@ pub whole-small : (held count value width : ℕ) → held < 2 ^ count → value 
 whole-small held count value width small fits =
     subst (λ p. held * 2 ^ width + value < p) (commuted (2 ^ width) (2 ^ count) ∙ sym (pow-add 2 count width)) (mul-add-lt held (2 ^ width) value (2 ^ count) small fits)
 
--- it is far below 128 bits
-pub whole-fits : (held count value width : ℕ) → held < 2 ^ count → value < 2 ^ width → count < 8 → width ≤ 64 → held * 2 ^ width + value < 2 ^ 128
-whole-fits held count value width small fits few most =
-    omega (arith, whole-small held count value width small fits, pow-le-pow_right {n = 2} (omega arith) {i = count + width} {j = 128} (omega (arith, few, most)))
-
 -- its octets
 pub high-fits : (whole octets behind all : ℕ) → whole < 2 ^ all → all ≡ 8 * octets + behind → whole / 2 ^ behind < 256 ^ octets
 high-fits whole octets behind all small size =
@@ -100,6 +95,3 @@ masked bits (negsuc n) most held =
 -- what keeps the octets in front, step after step
 pub keeps-on : (old mid new : List ℕ) → Keeps old mid → Keeps mid new → Keeps old new
 keeps-on old mid new first second = (first.0 ++ second.0, second.1 ∙ (ap (λ xs. xs ++ second.0) first.1 ∙ append_assoc old first.0 second.0))
-
-pub keeps-same : (old new : List ℕ) → new ≡ old → Keeps old new
-keeps-same old new same = ([], same ∙ sym (append-nil old))

@@ -1,6 +1,6 @@
 -- Writing value by value, and group by group.
 use Rattle.std.proofs.Common.{◌≡◌, ◌+◌, ◌-◌, ◌*◌, ◌/◌, ◌%◌, ◌<◌, ◌≤◌, ℕ, suc, ℤ, List, [], ◌∷◌, ◌++◌, length, take, drop, get_or, true, false, Option, Some, None, Result, Ok, Err, refl, sym, ap, subst, ◌∙◌, arith, append_assoc, append-nil}
-use Rattle.std.specs.Prelude.{replicate, flat_map, filter_map, sum_by, is_some, IsTrue}
+use Rattle.std.specs.Prelude.{replicate, flat_map, filter_map, sum_by}
 use Rattle.std.specs.List.{cons_option}
 use Rattle.std.specs.Option.{option_map_or}
 use Rattle.std.specs.Result.{OnOk}
@@ -33,11 +33,6 @@ groups-fit t last [] values h = tt
 groups-fit t last (g ∷ gs) values h =
     let parts = front-fit t (last - g.lag) g.params (flat_map (λ x. placed (last - x.lag) x.params) gs) values h in
     (parts.0, groups-fit t last gs (drop (length g.params) values) parts.1)
-
--- a parameter that a value fits is known
-pub fit-known : (o : Option Param) (v : ℤ) → option_map_or (λ p. fits p v) o false ≡ true → IsTrue (is_some o)
-fit-known None v e = absurd (both_ways false refl e)
-fit-known (Some p) v e = refl
 
 -- the value fits it
 pub fit-param : (o : Option Param) (p : Param) (v : ℤ) → o ≡ Some p → option_map_or (λ p. fits p v) o false ≡ true → fits p v ≡ true
@@ -74,10 +69,6 @@ values-more t ids i p rest v vs h known e =
 -- one value is written, and the bits of the whole stay the same
 pub value-written : (old mid new value later : List ℕ) → new ≡ mid ++ value → mid ++ (value ++ later) ≡ old → new ++ later ≡ old
 value-written old mid new value later e whole = ap (λ xs. xs ++ later) e ∙ (append_assoc mid value later ∙ whole)
-
--- no value is left
-pub values-end : (t : TailoringParts) (ids : List ℕ) (rest : List ℤ) (bits : List ℕ) → ids ≡ [] → bits ++ values_bits (filter_map (parameter t) ids) rest ≡ bits
-values-end t ids rest bits e = ap (λ xs. bits ++ values_bits (filter_map (parameter t) xs) rest) e ∙ append-nil bits
 
 -- the number of the bits of values
 length-fitting : (t : TailoringParts) (ids : List ℕ) (vs : List ℤ) → AreFitting t ids vs → length (values_bits (filter_map (parameter t) ids) vs) ≡ sum_by (λ p. p.bits) (filter_map (parameter t) ids)
@@ -136,10 +127,6 @@ group-written t ids old mid new values own rest p lag front back fit pending val
         padded
         ∙ (ap (λ xs. xs ++ replicate ((8 - p.count) % 8) 0) values_written
         ∙ (append_assoc (bits_of old) bits (replicate ((8 - p.count) % 8) 0) ∙ ap (λ n. bits_of old ++ (bits ++ replicate n 0)) zeros))
-
--- nothing is written yet
-pub writes-start : (t : TailoringParts) (gs : List Group) (octets : List ℕ) (values : List ℤ) → Writes t gs gs octets values octets values
-writes-start t gs octets values = record { bits = λ more. refl; fit = λ more fit. fit }
 
 -- the next of the groups that were left are written
 pub writes-more : (t : TailoringParts) (all left gs later : List Group) (old mid new : List ℕ) (values vs rest : List ℤ) → Writes t all left old values mid vs → left ≡ gs ++ later → Writes t gs [] mid vs new rest

@@ -34,7 +34,18 @@ groups-fit t last (g ∷ gs) values h =
     let parts = front-fit t (last - g.lag) g.params (flat_map (λ x. placed (last - x.lag) x.params) gs) values h in
     (parts.0, groups-fit t last gs (drop (length g.params) values) parts.1)
 
--- the value fits it
+places-moved : (t : TailoringParts) (slot other : ℕ) (ids : List ℕ) (rest later : List Place) (values : List ℤ) → ((vs : List ℤ) → AllFit t rest vs → AllFit t later vs) → AllFit t (placed slot ids ++ rest) values → AllFit t (placed other ids ++ later) values
+places-moved t slot other [] rest later values move h = move values h
+places-moved t slot other (id ∷ ids) rest later [] move h = absurd h
+places-moved t slot other (id ∷ ids) rest later (v ∷ vs) move h = (h.0, places-moved t slot other ids rest later vs move h.1)
+
+-- values that fit fit whatever the last slot
+pub fit-anywhere : (t : TailoringParts) (last other : ℕ) (gs : List Group) (values : List ℤ) → AllFit t (flat_map (λ g. placed (last - g.lag) g.params) gs) values → AllFit t (flat_map (λ g. placed (other - g.lag) g.params) gs) values
+fit-anywhere t last other [] values h = h
+fit-anywhere t last other (g ∷ gs) values h =
+    places-moved t (last - g.lag) (other - g.lag) g.params (flat_map (λ x. placed (last - x.lag) x.params) gs) (flat_map (λ x. placed (other - x.lag) x.params) gs) values (λ vs. fit-anywhere t last other gs vs) h
+
+-- a value fits the parameter that is found
 pub fit-param : (o : Option Param) (p : Param) (v : ℤ) → o ≡ Some p → option_map_or (λ p. fits p v) o false ≡ true → fits p v ≡ true
 fit-param o p v known e = sym (ap (λ o. option_map_or (λ q. fits q v) o false) known) ∙ e
 

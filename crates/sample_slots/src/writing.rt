@@ -56,7 +56,8 @@ fn write_arrays(
     out: &mut Vec<u8>,
 ) -> Result<(), Memory>
     requires fit { (interval : ℕ) × GroupsFit tailoring.now (flat_map (array_groups interval) arrays.now) values.now }
-    ensures bits { OnOk result ((interval : ℕ) → bits_of out.new.items ≡ bits_of out.old.items ++ payload_bits tailoring.now (flat_map (array_groups interval) arrays.now) values.now) }
+    ensures bits { OnOk result ((interval : ℕ) → bits_of out.new.items
+        ≡ bits_of out.old.items ++ payload_bits tailoring.now (flat_map (array_groups interval) arrays.now) values.now) }
     ensures kept { Keeps out.old.items out.new.items }
 {
     let mut rest = values;
@@ -73,8 +74,10 @@ fn write_array<'a>(
     values: &'a [Value],
     out: &mut Vec<u8>,
 ) -> Result<&'a [Value], Memory>
-    requires fit { (spacing : ℕ) × (more : List Group) × GroupsFit tailoring.now (repetitions array.now.params spacing array.now.repetition ++ more) values.now }
-    ensures bits { IfOk result (λ rest. (spacing : ℕ) → Writes tailoring.now (repetitions array.now.params spacing array.now.repetition) [] out.old.items values.now out.new.items rest.now) }
+    requires fit { (spacing : ℕ) × (more : List Group)
+        × GroupsFit tailoring.now (repetitions array.now.params spacing array.now.repetition ++ more) values.now }
+    ensures bits { IfOk result (λ rest. (spacing : ℕ)
+        → Writes tailoring.now (repetitions array.now.params spacing array.now.repetition) [] out.old.items values.now out.new.items rest.now) }
     ensures kept { Keeps out.old.items out.new.items }
 {
     let mut rest = values;
@@ -92,7 +95,8 @@ fn write_group<'a>(
     out: &mut Vec<u8>,
 ) -> Result<&'a [Value], Memory>
     requires fit { AreFitting tailoring.now ids.now (take (length ids.now) values.now) }
-    ensures bits { IfOk result (λ rest. (lag : ℕ) → Writes tailoring.now (record { lag = lag; params = ids.now } ∷ []) [] out.old.items values.now out.new.items rest.now) }
+    ensures bits { IfOk result (λ rest. (lag : ℕ)
+        → Writes tailoring.now (record { lag = lag; params = ids.now } ∷ []) [] out.old.items values.now out.new.items rest.now) }
     ensures kept { Keeps out.old.items out.new.items }
 {
     let (own, rest) = values.split_at(ids.len());
@@ -109,7 +113,8 @@ fn write_values(
     out: &mut Vec<u8>,
 ) -> Result<Pending, Memory>
     requires fit { AreFitting tailoring.now ids.now values.now }
-    ensures bits { IfOk result (λ pending. written out.new.items pending ≡ bits_of out.old.items ++ values_bits (filter_map (parameters.parameter tailoring.now) ids.now) values.now) }
+    ensures bits { IfOk result (λ pending. written out.new.items pending
+        ≡ bits_of out.old.items ++ values_bits (filter_map (parameters.parameter tailoring.now) ids.now) values.now) }
     ensures pending { IfOk result (λ pending. IsPending pending) }
     ensures kept { Keeps out.old.items out.new.items }
 {

@@ -6,3 +6,5 @@ pub mod CountLemmas
 pub mod PayloadLaws
 pub mod SpellingLaws
 pub mod WindowLemmas
+pub mod PackingLemmas
+pub mod WritingLemmas

@@ -25,6 +25,7 @@ use Rattle.hk_base.specs.Parameters.{parameter, fits, in_range, value_of, value_
 use Rattle.hk_base.specs.declared.types.Form.{Form}
 use Rattle.hk_base.specs.declared.types.Form.TheVariants.{Unsigned, Signed, Enumerated, Boolean}
 use Rattle.hk_base.specs.declared.types.Param.{Param}
+use Rattle.sample_slots.specs.Writing.{IsHeld}
 
 two-positive : (p : ℕ) → 0 < 2 ^ p
 two-positive p = let e = suc_ones p in omega (arith, e)
@@ -74,6 +75,10 @@ half (suc b) some = let e = pow-suc 2 b in let double : 2 ^ suc b ≡ 2 * 2 ^ b 
 unsigned-back : (bits n : ℕ) → n < 2 ^ bits → pos (number 2 (digits 2 bits n)) ≡ pos n
 unsigned-back bits n lt = ap pos (number-small bits n lt)
 
+-- the least value in two's complement
+least_signed : (bits : ℕ) → 1 ≤ bits → signed_of bits (2 ^ (bits - 1)) ≡ negsuc (2 ^ bits - suc (2 ^ (bits - 1)))
+least_signed bits some = ap (λ b. if b then pos (2 ^ (bits - 1)) else negsuc (2 ^ bits - suc (2 ^ (bits - 1)))) (le-ltb (2 * 2 ^ (bits - 1)) (2 ^ bits) (omega (arith, half bits some)))
+
 signed-back : (bits : ℕ) (v : ℤ) → 1 ≤ bits → in_range Signed bits v ≡ true → signed_of bits (number 2 (digits 2 bits (twos_complement bits v))) ≡ v
 signed-back bits (pos n) some e =
     let parts = and_parts (int_le (signed_of bits (2 ^ (bits - 1))) (pos n)) (int_lt (pos n) (pos (2 ^ (bits - 1)))) e in
@@ -84,8 +89,7 @@ signed-back bits (pos n) some e =
 signed-back bits (negsuc n) some e =
     let parts = and_parts (int_le (signed_of bits (2 ^ (bits - 1))) (negsuc n)) (int_lt (negsuc n) (pos (2 ^ (bits - 1)))) e in
     let h = half bits some in
-    let least : signed_of bits (2 ^ (bits - 1)) ≡ negsuc (2 ^ bits - suc (2 ^ (bits - 1))) =
-    ap (λ b. if b then pos (2 ^ (bits - 1)) else negsuc (2 ^ bits - suc (2 ^ (bits - 1)))) (le-ltb (2 * 2 ^ (bits - 1)) (2 ^ bits) (omega (arith, h))) in
+    let least = least_signed bits some in
     let le : n ≤ 2 ^ bits - suc (2 ^ (bits - 1)) = le-neg n (2 ^ bits - suc (2 ^ (bits - 1))) (sym (ap (λ z. int_le z (negsuc n)) least) ∙ parts.0) in
     let positive = two-positive (bits - 1) in
     ap (λ x. signed_of bits x) (number-small bits (2 ^ bits - suc n) (omega (arith, le, h, positive)))
@@ -129,6 +133,28 @@ form-back Boolean bits v fit some e = go (or_cases (int_eq v (pos 0)) (int_eq v 
     go (inr f) =
         let r = same-int v (pos 1) f in
         ap (λ z. pos (number 2 (digits 2 bits (twos_complement bits z)))) r ∙ unsigned-back bits 1 (small-bits bits 1 some (omega arith)) ∙ sym r
+
+-- so many bits hold a value in the range of its form
+held-in : (form : Form) (bits : ℕ) (v : ℤ) → IsFitForm form bits → 1 ≤ bits → in_range form bits v ≡ true → IsHeld bits v
+held-in Unsigned bits (pos n) fit some e = lt-pos n (2 ^ bits) (and_parts (int_le (pos 0) (pos n)) (int_lt (pos n) (pos (2 ^ bits))) e).1
+held-in Unsigned bits (negsuc n) fit some e = absurd (no-negative n (and_parts (int_le (pos 0) (negsuc n)) (int_lt (negsuc n) (pos (2 ^ bits))) e).0)
+held-in Signed bits (pos n) fit some e =
+    let lt = lt-pos n (2 ^ (bits - 1)) (and_parts (int_le (signed_of bits (2 ^ (bits - 1))) (pos n)) (int_lt (pos n) (pos (2 ^ (bits - 1)))) e).1 in
+    omega (arith, lt, half bits some)
+held-in Signed bits (negsuc n) fit some e =
+    let parts = and_parts (int_le (signed_of bits (2 ^ (bits - 1))) (negsuc n)) (int_lt (negsuc n) (pos (2 ^ (bits - 1)))) e in
+    let le : n ≤ 2 ^ bits - suc (2 ^ (bits - 1)) = le-neg n (2 ^ bits - suc (2 ^ (bits - 1))) (sym (ap (λ z. int_le z (negsuc n)) (least_signed bits some)) ∙ parts.0) in
+    omega (arith, le, half bits some, two-positive (bits - 1))
+held-in (Enumerated values) bits v fit some e = let r = enumerated-small bits v values fit.1 e in subst (λ z. IsHeld bits z) (sym r.1) r.2
+held-in Boolean bits v fit some e = go (or_cases (int_eq v (pos 0)) (int_eq v (pos 1)) e)
+  where
+    go : (int_eq v (pos 0) ≡ true) ⊎ (int_eq v (pos 1) ≡ true) → IsHeld bits v
+    go (inl f) = subst (λ z. IsHeld bits z) (sym (same-int v (pos 0) f)) (small-bits bits 0 some (omega arith))
+    go (inr f) = subst (λ z. IsHeld bits z) (sym (same-int v (pos 1) f)) (small-bits bits 1 some (omega arith))
+
+-- the bits of a parameter hold a value that fits it
+pub held : (p : Param) (v : ℤ) → IsFitShape p → fits p v ≡ true → IsHeld p.bits v
+held p v shape e = held-in p.form p.bits v shape.form shape.bits.0 e
 
 value-back : (p : Param) (v : ℤ) → IsFitShape p → fits p v ≡ true → bits_value p (value_bits p v) ≡ v
 value-back p v fit e = form-back p.form p.bits v fit.form fit.bits.0 e

@@ -195,7 +195,7 @@ fn push(values: &mut Vec<Value>, value: Value) -> Result<(), PayloadFault>
 }
 
 /// The parameter with this ID, which the tailoring has.
-fn known_param(tailoring: &Tailoring, id: u32) -> &Param
+pub(crate) fn known_param(tailoring: &Tailoring, id: u32) -> &Param
     requires { IsTrue (is_some (parameter tailoring.now id)) }
     ensures param { parameter tailoring.now id ≡ Some result.now }
     ensures shape { IsFitShape result.now }

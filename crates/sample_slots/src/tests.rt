@@ -1,6 +1,6 @@
 ghost use Rattle.std.specs.Prelude.{◌≡◌, ◌≤◌, length, None};
 
-use crate::{PayloadFault, Place, Window, place, place_count, read_payload, size};
+use crate::{PayloadFault, Place, Window, place, place_count, read_payload, size, write_payload};
 use hk_base::{
     BUILTIN_WIDTHS, Boot, Definition, Form, Items, Key, Kind, Memory, Param, Structure, SuperList,
     Tailoring, Value, Widths, builtin,
@@ -40,10 +40,11 @@ fn places_of_an_array(rt: HostRuntime) -> Result<(), Fail> {
 }
 
 #[test]
-fn payloads_are_read(rt: HostRuntime) -> Result<(), Fail> {
+fn payloads_are_read_and_written(rt: HostRuntime) -> Result<(), Fail> {
     let alloc = rt.alloc();
     let tailoring = builtin(alloc)?;
-    let cases: [(Key, &[u8], Result<&[Value], PayloadFault>); 6] = [
+    let cases: [(Key, &[u8], Result<&[Value], PayloadFault>); 7] = [
+        (FIRST, &[0, 42], Ok(&[42])),
         (SECOND, &[0, 1, 10, 11, 12, 13], Ok(&[1, 10, 11, 12, 13])),
         (SECOND, &[0, 1], Err(PayloadFault::WrongSize(6, 2))),
         (
@@ -111,7 +112,7 @@ fn small(id: u32, form: Form, bits: u8) -> Param
 }
 
 #[test]
-fn packed_payloads_are_read(rt: HostRuntime) -> Result<(), Fail> {
+fn packed_payloads_are_read_and_written(rt: HostRuntime) -> Result<(), Fail> {
     let alloc = rt.alloc();
     let tailoring = packed(alloc)?;
     let cases: [(&[u8], Result<&[Value], PayloadFault>); 2] = [
@@ -143,6 +144,7 @@ fn windows_keep_the_latest(rt: HostRuntime) -> Result<(), Fail> {
     Ok(())
 }
 
+/// Octets are read as expected, and values that were read are written as these octets.
 fn check(
     rt: &impl Abort,
     alloc: Global,
@@ -155,7 +157,12 @@ fn check(
 {
     let def = &tailoring.boot(key).ok_or("no structure")?.def;
     match (read_payload(alloc, tailoring, def, bytes), expected) {
-        (Ok(values), Ok(expected)) => assert!(rt; values.as_slice() == expected),
+        (Ok(values), Ok(expected)) => {
+            assert!(rt; values.as_slice() == expected);
+            let mut octets = Vec::new(alloc);
+            write_payload(tailoring, def, values.as_slice(), &mut octets)?;
+            assert!(rt; octets.as_slice() == bytes);
+        }
         (Err(fault), Err(expected)) => assert_eq!(rt; fault, expected),
         (found, _) => assert!(rt; false, "{found:?}"),
     }

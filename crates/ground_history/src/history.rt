@@ -8,9 +8,9 @@ ghost use Rattle.ground_history.specs.Evidence as evidence;
 ghost use Rattle.ground_history.specs.Ground.{HasNumber, IsAnswer, IsCountOf, with_history, is_room_for, got_result, report_result, own_count, answer_by_count};
 
 use crate::answer::{GotKind, Outcome, SentFault};
+use crate::asked::{asked, is_alone};
 use crate::evidence::Evidence;
 use crate::kept::{KeptPacket, KeptPackets};
-use crate::asked::{asked, is_alone};
 use crate::requests::{Requests, SentRequest};
 use hk_base::{Items, Memory, RequestId, Tailoring};
 use pus_messages::{Reception, Report, ReportBody, Request, receive, subject};

@@ -8,6 +8,8 @@ pub mod StateLemmas
 pub mod KnownFacts
 pub mod CandidateLemmas
 pub mod ContainmentLemmas
+pub mod SetLemmas
+pub mod ReachLemmas
 pub mod VerdictLemmas
 pub mod WorldContainment
 pub mod SoundLemmas

@@ -10,6 +10,9 @@ pub mod CandidateLemmas
 pub mod ContainmentLemmas
 pub mod SetLemmas
 pub mod ReachLemmas
+pub mod CommonLemmas
+pub mod NewestLemmas
+pub mod AgreementLemmas
 pub mod VerdictLemmas
 pub mod WorldContainment
 pub mod SoundLemmas

@@ -1,11 +1,12 @@
 -- What functions find of the states that are possible, and what they want of openings.
-use Rattle.std.specs.Prelude.{◌≡◌, ◌≤◌, List, [], ◌++◌, length, true, false, not, filter, Option, Some, None}
+use Rattle.std.specs.Prelude.{◌≡◌, ◌≤◌, List, [], ◌++◌, length, Bool, true, false, not, filter, nat_lt, Option, Some, None, if◌then◌else◌}
 use Rattle.std.specs.List.{All, IsDistinct, list_any}
 use Rattle.hk_base.specs.TailoringParts.{TailoringParts}
+use Rattle.hk_base.specs.declared.types.Definition.{Definition}
 use Rattle.hk_base.specs.declared.types.Structure.{Structure}
 use Rattle.report_structures.specs.Changes.{IsGrammarChange, IsFormedState}
 use Rattle.definition_intervals.specs.Openings.{Candidate, Opening}
-use Rattle.definition_intervals.specs.States.{state_eq, states_from, is_crowded}
+use Rattle.definition_intervals.specs.States.{definition_eq, state_eq, states_from, is_crowded}
 use Rattle.definition_intervals.specs.Verdicts.{common_states}
 
 -- a change that requests of the grammar can ask for
@@ -39,3 +40,23 @@ uncrowded_openings t os = filter (λ x. not (is_crowded t x)) os
 abbrev pub AreCommon : TailoringParts → List Opening → Option (List (Option Structure)) → Type 0
 AreCommon t os None = uncrowded_openings t os ≡ []
 AreCommon t os (Some states) = (1 ≤ length (uncrowded_openings t os)) × IsSetOf states (common_states t (uncrowded_openings t os))
+
+-- the states of a list that are in another, too
+abbrev pub shared_states : List (Option Structure) → List (Option Structure) → List (Option Structure)
+shared_states states others = filter (λ s. list_any (state_eq s) others) states
+
+-- the states that are possible so far, and what one more opening leaves of them; a crowded one says nothing
+abbrev pub narrowed : Option (List (Option Structure)) → Option (List (Option Structure)) → Option (List (Option Structure))
+narrowed common None = common
+narrowed None (Some found) = Some found
+narrowed (Some states) (Some found) = Some (shared_states states found)
+
+-- the opening with the greatest tag, of the latest so far and one behind it
+abbrev pub newer_of : Option Opening → Opening → Opening
+newer_of None o = o
+newer_of (Some latest) o = if nat_lt o.tag latest.tag then latest else o
+
+-- a definition is the one that was found so far, if there is one
+abbrev pub is_agreed : Option Definition → Definition → Bool
+is_agreed None d = true
+is_agreed (Some only) d = definition_eq only d

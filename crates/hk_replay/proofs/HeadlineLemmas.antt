@@ -13,7 +13,9 @@ use Rattle.session_record.specs.Records.{header_of}
 use Rattle.session_record.specs.declared.entry.Entry.{Entry}
 use Rattle.session_record.specs.declared.entry.Entry.TheVariants.{Sent, Got, Line}
 use Rattle.pus_messages.specs.Messages.{protocol}
-use Rattle.hk_world.specs.Timelines.{EachAfter, tailoring}
+use Rattle.hk_base.specs.Parameters.{boot_structure}
+use Rattle.hk_base.specs.declared.types.Key.{Key}
+use Rattle.hk_world.specs.Timelines.{EachAfter, tailoring, state_after}
 use Rattle.hk_world.specs.Honest.{IsFiled}
 use Rattle.hk_world.specs.Worlds as worlds
 use Rattle.hk_world.specs.Worlds.{World, Step, IsWorld, moments_of, deliveries_of, entries_seen}
@@ -49,7 +51,8 @@ told w heard m d =
     let s = w.session in
     let id = d.report.0 in
     let payload = d.report.1 in
-    let unchanged = λ key. structures_reported w heard.world heard.undisturbed d.later d.earlier key d.before in
+    let unchanged : (key : Key) → (state_after s d.earlier).structure key ≡ boot_structure (tailoring s) key =
+    λ key. structures_reported w heard.world heard.undisturbed d.later d.earlier key d.before in
     let r = report_is_read s d.earlier m id payload heard.world.session.fit heard.spoken unchanged d.report.2 d.report.3 in
     let in_force = structures_unchanged w heard.world heard.undisturbed m.tag (housekeeping r.id) ∙ r.booted in
     let ps = places r.structure.def (slot_of (tailoring s) m.tag - 1) in

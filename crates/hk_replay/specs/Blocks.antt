@@ -17,7 +17,6 @@ use Rattle.pus_messages.specs.Messages.{reception}
 use Rattle.pus_messages.specs.Protocol.{Reception, readable}
 use Rattle.pus_messages.specs.declared.message.ReportBody.{ReportBody}
 use Rattle.pus_messages.specs.declared.message.ReportBody.TheVariants.{Hk}
-use Rattle.hk_world.specs.Undisturbed.{housekeeping}
 
 -- A report that is decided: the ID of its housekeeping structure, its tag, the interval of the definition in force, and each value with its place.
 pub record Block : Type 0 where
@@ -63,14 +62,14 @@ structure_block t id tag payload None = None
 structure_block t id tag payload (Some x) =
     if nat_le x.def.interval (slot_of t tag) then block_by t id tag x.def (payload_read t x.def payload) else None
 
--- the same by the kind of the structure
-abbrev pub kind_block : TailoringParts → ℕ → Kind → ℕ → List ℕ → Option Block
-kind_block t tag Housekeeping id payload = structure_block t id tag payload (boot_structure t (housekeeping id))
-kind_block t tag Diagnostic id payload = None
+-- a block of a structure of this kind: of a housekeeping one alone
+abbrev pub of_kind : Kind → Option Block → Option Block
+of_kind Housekeeping b = b
+of_kind Diagnostic b = None
 
 -- the block of a parameter report with this tag, where it is of a housekeeping structure that the board has from its start
 abbrev pub values_block : TailoringParts → ℕ → Key → List ℕ → Option Block
-values_block t tag key payload = kind_block t tag key.kind key.id payload
+values_block t tag key payload = of_kind key.kind (structure_block t key.id tag payload (boot_structure t key))
 
 -- the block of a report with this tag and body
 abbrev pub body_block : TailoringParts → ℕ → ReportBody → Option Block

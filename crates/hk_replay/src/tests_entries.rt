@@ -1,4 +1,6 @@
 //! Records that are shown, and lines that are encoded.
+ghost use Rattle.std.specs.Prelude.{◌<◌, length};
+
 use crate::replay::replay_main;
 use crate::status::ReplayStatus;
 use crate::tests::{
@@ -265,27 +267,40 @@ fn the_lines_before_a_fault(rt: HostRuntime) -> Result<(), Fail> {
     Ok(())
 }
 
-/// One octet of a packet is another one: it is shown as one line all the same.
-#[test]
-fn damaged_packets(rt: HostRuntime) -> Result<(), Fail> {
-    let alloc = rt.alloc();
-    for entry in [REQUEST, REPORT] {
-        for place in 5..entry.len() {
-            for octet in [0u8, 1, 0x20, 0x7f, 0x80, 0xff] {
-                let damaged = [octet];
-                let parts: [&[u8]; 4] = [KNOWN, &entry[..place], &damaged, &entry[place + 1..]];
-                let (status, sink) = run_with_files(
-                    alloc,
-                    &["show", "builtin", "record"],
-                    &parts,
-                    &[],
-                )?;
-                assert_status(&rt, alloc, &status, &ReplayStatus::Done)?;
-                let feeds = sink.taken().iter().filter(|octet| **octet == b'\n').count();
-                assert_eq!(rt; feeds, 1);
-            }
+/// The octet at a place of an entry is another one: the entry is shown as one line all the same.
+fn check_damaged(
+    rt: &impl Abort,
+    alloc: Global,
+    entry: &[u8],
+    place: usize,
+    octet: u8,
+) -> Result<(), Memory>
+    requires { place < length entry.now }
+{
+    let damaged = [octet];
+    let parts: [&[u8]; 4] = [KNOWN, &entry[..place], &damaged, &entry[place + 1..]];
+    let words: &[&str] = &["show", "builtin", "record"];
+    let (status, sink) = run_with_files(alloc, words, &parts, &[])?;
+    assert_status(rt, alloc, &status, &ReplayStatus::Done)?;
+    let lines = sink.taken().split(|octet| *octet == b'\n').count();
+    assert_eq!(rt; lines, 2);
+    Ok(())
+}
+
+/// Each octet of a packet is damaged in turn.
+fn check_each_damaged(rt: &impl Abort, alloc: Global, entry: &[u8]) -> Result<(), Memory> {
+    for place in 5..entry.len() {
+        for octet in [0u8, 1, 0x20, 0x7f, 0x80, 0xff] {
+            check_damaged(rt, alloc, entry, place, octet)?;
         }
     }
+    Ok(())
+}
+
+#[test]
+fn damaged_packets(rt: HostRuntime) -> Result<(), Fail> {
+    check_each_damaged(&rt, rt.alloc(), REQUEST)?;
+    check_each_damaged(&rt, rt.alloc(), REPORT)?;
     Ok(())
 }
 
@@ -342,7 +357,10 @@ fn lines_that_are_not_written(rt: HostRuntime) -> Result<(), Fail> {
         let shelf = shelf_of(alloc, &[KNOWN, REQUEST, REPORT, b"G"], &[], 4096)?;
         let (status, sink) = shown(alloc, shelf, sink_of(alloc, &[call], room)?)?;
         assert_status(&rt, alloc, &status, &ReplayStatus::WriteFault)?;
-        assert!(rt; sink.taken() == &both[..taken], "at {call}");
+        assert!(rt;
+            sink.taken().len() == taken && both.starts_with(sink.taken()),
+            "at {call}"
+        );
     }
     Ok(())
 }

@@ -1,5 +1,6 @@
 //! The lines that are written for a record, report by report.
 ghost use Rattle.std.specs.Prelude.{◌≡◌, ◌≤◌, ◌^◌, ◌+◌, Some, None, length, IfOk};
+ghost use Rattle.hk_base.specs.Parameters.{boot_structure};
 ghost use Rattle.hk_base.specs.Payload.{IsValid};
 ghost use Rattle.session_record.specs.Records.{held_octets};
 ghost use Rattle.pus_messages.specs.Spelling.{HasRoom};
@@ -118,9 +119,24 @@ fn with_values(
     requires { length payload.now ≤ 2 ^ 31 }
     ensures { IfOk result (λ after. after ≡ with_block before (values_block tailoring.now tag key payload.now)) }
 {
-    if key.kind != Kind::Housekeeping {
-        return Ok(None);
+    match key.kind {
+        Kind::Housekeeping => with_key(alloc, tailoring, before, key, tag, payload),
+        Kind::Diagnostic => Ok(None),
     }
+}
+
+/// The lines with those of a parameter report of the structure with this key, where the board has it from its start.
+fn with_key(
+    alloc: Global,
+    tailoring: &Tailoring,
+    before: Transcript,
+    key: Key,
+    tag: u64,
+    payload: &[u8],
+) -> Result<Option<Transcript>, Memory>
+    requires { length payload.now ≤ 2 ^ 31 }
+    ensures { IfOk result (λ after. after ≡ with_block before (structure_block tailoring.now key.id tag payload.now (boot_structure tailoring.now key))) }
+{
     match tailoring.boot(key) {
         Some(structure) => with_boot(alloc, tailoring, before, key.id, tag, structure, payload),
         None => Ok(None),

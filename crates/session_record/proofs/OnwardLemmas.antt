@@ -30,8 +30,7 @@ gains-then h0 h1 h2 (Some was) None r2 a b = absurd (none_left a.1)
 gains-then h0 h1 h2 (Some was) (Some mid) None a b = absurd (none_left b.1)
 gains-then h0 h1 h2 (Some was) (Some mid) (Some now) a b =
     let one = a.0.0 in
-    let two = b.0.0 in
-    (
+    let two = b.0.0 in (
       (
         one ++ two,
         a.0.1 ∙ ap (λ xs. one ++ xs) b.0.1 ∙ sym (append_assoc one two now),

@@ -1,0 +1,94 @@
+-- What contracts see of a history, and how its calls answer.
+use Rattle.std.specs.Prelude.{◌≡◌, ℕ, ◌+◌, ◌-◌, ◌%◌, ◌^◌, ◌<◌, ◌≤◌, List, [], ◌∷◌, take, length, map, ⊤, Bool, not, ◌&&◌, ◌||◌, ◌==◌, nat_lt, Option, Some, None, IfSome, Result, Ok, Err, if◌then◌else◌}
+use Rattle.std.specs.List.{AllByRecursion}
+use Rattle.hk_base.specs.Fields.{number_of}
+use Rattle.hk_base.specs.declared.types.RequestId.{RequestId}
+use Rattle.hk_base.specs.TailoringParts.{TailoringParts}
+use Rattle.pus_packet.specs.declared.header.TcHeader.{TcHeader}
+use Rattle.pus_messages.specs.Messages.{protocol}
+use Rattle.ground_history.specs.Histories.{Sent, Kept, History, is_own, is_known_begun, sent_short, sent_long, tag_of, history_with_got, history_with_report, number_of_body, stray_id}
+use Rattle.hk_base.specs.declared.types.Memory.{Memory}
+use Rattle.pus_messages.specs.declared.message.Report.{Report}
+use Rattle.ground_history.specs.declared.answer.GotKind.{GotKind}
+use Rattle.pus_messages.specs.Protocol.{Protocol, Reception, foreign, skipped, unread, readable}
+use Rattle.ground_history.specs.declared.reception.Received.{Received}
+use Rattle.ground_history.specs.declared.reception.Received.TheVariants as received
+use Rattle.ground_history.specs.declared.answer.SentFault.{SentFault}
+use Rattle.ground_history.specs.declared.answer.SentFault.TheVariants as fault
+
+-- a tailoring, and what is known under it
+pub record Ground : Type 0 where
+  pub tailoring : TailoringParts
+  pub history : History
+
+-- what is known is the first, and the tailoring that of the second
+abbrev pub with_history : Ground → History → Ground
+with_history g h = record g { history = h }
+
+-- want of memory alone is free
+abbrev pub IsAnswer : {X : Type 0} → Result X SentFault → Result X SentFault → Type 0
+IsAnswer wanted (Ok x) = wanted ≡ Ok x
+IsAnswer wanted (Err fault.Memory) = ⊤
+IsAnswer wanted (Err given) = wanted ≡ Err given
+
+-- what is known after octets were received and so answered
+abbrev pub got_result : Protocol → History → List ℕ → Result GotKind Memory → History
+got_result p h packet (Ok kind) = history_with_got h packet (p.reception packet)
+got_result p h packet (Err m) = h
+
+-- what is known after a report was read and so answered
+abbrev pub report_result : History → List ℕ → Report → Result GotKind Memory → History
+report_result h packet r (Ok kind) = history_with_report h packet r kind
+report_result h packet r (Err m) = h
+
+-- a report that isn't stray has this number of the request that it verifies
+pub record HasNumber (h : History) (r : Report) (number : Option ℕ) : Type 0 where
+  pub found : number ≡ number_of_body h r.header.tag r.body
+  pub sent : stray_id h r.header.tag r.body ≡ None
+  pub near : IfSome number (λ k. k < 2 ^ 63)
+
+-- the count of a request packet with these headers, if it is of the tailoring's process and source
+abbrev pub own_count : TailoringParts → Option TcHeader → Result ℕ SentFault
+own_count t None = Err fault.BadRequest
+own_count t (Some header) = if is_own (protocol t) header then Ok header.count else Err fault.BadRequest
+
+-- whether a packet with this count is a new request
+abbrev pub answer_by_count : History → List ℕ → Result ℕ SentFault → Result Bool SentFault
+answer_by_count h packet (Err given) = Err given
+answer_by_count h packet (Ok count) = if h.long then sent_long h count packet else sent_short h count packet
+
+-- whether there is room for the new request with a number
+abbrev pub is_room_for : History → ℕ → Bool
+is_room_for h number = if h.long then nat_lt number 8191 || is_known_begun h (number - 8191) else nat_lt number 16384
+
+-- the count in the first four octets of a packet is its number, as far as 14 bits tell it
+abbrev pub IsCounted : ℕ → Sent → Type 0
+IsCounted number request = number_of (take 4 request.packet) % 16384 ≡ number % 16384
+
+-- a packet has this count in its first four octets
+abbrev pub IsCountOf : ℕ → List ℕ → Type 0
+IsCountOf count packet = (4 ≤ length packet) × (number_of (take 4 packet) % 16384 ≡ count)
+
+-- each request, from this number on, has its number's count
+abbrev pub AreCounted : ℕ → List Sent → Type 0
+AreCounted number [] = Unit {0}
+AreCounted number (request ∷ requests) = IsCounted number request × AreCounted (number + 1) requests
+
+-- whether a verification report with this request ID and tag can be on a request
+abbrev pub is_verified_by : Bool → RequestId → ℕ → Sent → Bool
+is_verified_by long id tag request = (number_of (take 4 request.packet) == id.word) && (not long || nat_lt request.floor tag)
+
+-- each packet stands under its tag
+abbrev pub IsByTag : List (ℕ × Kept) → Type 0
+IsByTag entries = AllByRecursion (λ e. e.0 ≡ tag_of e.1) entries
+
+-- the packets of entries
+abbrev pub packets_of : List (ℕ × Kept) → List Kept
+packets_of entries = map (λ e. e.1) entries
+
+-- octets that were received, as the code holds what they are
+abbrev pub reception_of : Received → Reception
+reception_of (received.Foreign apid) = foreign apid
+reception_of (received.Skipped service subtype) = skipped service subtype
+reception_of received.Unread = unread
+reception_of (received.Readable report) = readable report

@@ -11,8 +11,8 @@ use Rattle.definition_intervals.specs.Openings.{Opening}
 use Rattle.definition_intervals.specs.States.{definition_eq}
 use Rattle.definition_intervals.specs.Verdicts.{named_request, common_states, explanation, verdict_by, verdict_from, verdict_of}
 use Rattle.definition_intervals.specs.Findings.{IsSetOf, AreCommon, uncrowded_openings, is_agreed}
-use Rattle.definition_intervals.specs.declared.verdict.Verdict.{Verdict}
-use Rattle.definition_intervals.specs.declared.verdict.Verdict.TheVariants.{Decided, Undecidable, Crowded}
+use Rattle.definition_intervals.specs.declared.answer.Verdict.{Verdict}
+use Rattle.definition_intervals.specs.declared.answer.Verdict.TheVariants.{Decided, Undecidable, Crowded}
 use Rattle.definition_intervals.proofs.EqualityLemmas.{definition_eq-Decides}
 use Rattle.definition_intervals.proofs.SetLemmas.{same-IsIn}
 

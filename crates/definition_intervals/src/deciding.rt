@@ -7,16 +7,40 @@ ghost use Rattle.report_structures.specs.Changes.{IsFormedState};
 ghost use Rattle.definition_intervals.specs.Verdicts as verdicts;
 ghost use Rattle.definition_intervals.specs.Verdicts.{verdict_by, verdict_of};
 ghost use Rattle.definition_intervals.specs.Findings as findings;
-ghost use Rattle.definition_intervals.specs.Findings.{IsFormedOpening, AreCommon, is_agreed};
+ghost use Rattle.definition_intervals.specs.Findings.{IsGrounded, IsFormedOpening, AreCommon, is_agreed};
 
+use crate::answer::Verdict;
 use crate::equality::is_same_definition;
+use crate::gathering::openings;
 use crate::naming::named_request;
 use crate::opening::Opening;
 use crate::states::{has_state, possible_states};
-use crate::verdict::Verdict;
-use hk_base::{Definition, Items, Memory, PayloadFault, Structure, Tailoring, slot_of};
+use ground_history::History;
+use hk_base::{Definition, Items, Key, Memory, PayloadFault, Structure, Tailoring, slot_of};
 use sample_slots::read_payload;
 use std::alloc::Global;
+
+/// The verdict on a report of a structure with this tag and payload, by what is known.
+pub fn verdict(
+    alloc: Global,
+    history: &History,
+    key: Key,
+    tag: u64,
+    payload: &[u8],
+) -> Result<Verdict, Memory>
+    requires grounded { IsGrounded history.now }
+    requires limit { length payload.now ≤ 2147483648 }
+    ensures { IfOk result (λ verdict. verdict ≡ verdicts.verdict history.now.tailoring history.now.history key tag payload.now) }
+{
+    let openings = openings(alloc, history, key, tag)?;
+    verdict_over(
+        alloc,
+        history.tailoring(),
+        tag,
+        payload,
+        openings.as_slice(),
+    )
+}
 
 /// The verdict on a report with this tag and payload, from all openings of its structure.
 pub fn verdict_over(

@@ -4,7 +4,7 @@ use Rattle.std.proofs.lemmas.Grind.{common_steps}
 use Rattle.hk_base.specs.declared.types.Structure.{Structure}
 use Rattle.definition_intervals.specs.Verdicts.{explanation, verdict_by}
 use Rattle.definition_intervals.specs.Findings.{AreCommon}
-use Rattle.definition_intervals.specs.declared.verdict.Verdict.{Verdict}
+use Rattle.definition_intervals.specs.declared.answer.Verdict.{Verdict}
 use Rattle.definition_intervals.proofs.AgreementLemmas.{verdict-common}
 use Rattle.definition_intervals.proofs.deciding.verdict_over.Goals as goal
 

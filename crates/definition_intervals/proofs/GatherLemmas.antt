@@ -16,18 +16,22 @@ use Rattle.st04_grammar.specs.Instructions.{StatisticsChange}
 use Rattle.st20_grammar.specs.declared.bodies.Request20.{Request20}
 use Rattle.st20_grammar.specs.declared.bodies.Request20.TheVariants as values
 use Rattle.pus_messages.specs.Instructions.{Instruction, on_statistics, on_structures, instructions, body_instructions, value_instruction}
-use Rattle.pus_messages.specs.Spelling.{IsRequestBody}
+use Rattle.pus_messages.specs.Spelling.{IsRequestBody, IsReportBody, IsRequest, IsReport}
 use Rattle.pus_messages.specs.Changes.{change_on, change_by}
 use Rattle.pus_messages.specs.declared.message.Request.{Request}
+use Rattle.pus_messages.specs.declared.message.ReportBody.{ReportBody}
+use Rattle.pus_messages.specs.declared.message.ReportBody.TheVariants as tell
+use Rattle.st03_grammar.specs.declared.bodies.Report03.TheVariants as hk
 use Rattle.pus_messages.specs.declared.message.RequestBody.{RequestBody}
 use Rattle.pus_messages.specs.declared.message.RequestBody.TheVariants.{Hk, Stat, Par}
 use Rattle.report_structures.specs.Changes.{IsGrammarChange, IsFormedState}
 use Rattle.report_structures.proofs.GrammarLemmas.{instruction_of_grammar}
+use Rattle.report_structures.proofs.ReportedLemmas.{reported-formed}
 use Rattle.ground_history.specs.Histories.{Sent, Kept, History, tag_of}
 use Rattle.ground_history.specs.Evidence.{outcome}
-use Rattle.ground_history.specs.Ground.{Ground}
+use Rattle.ground_history.specs.Ground.{Ground, IsGrammarSent, IsGrammarKept, IsGrounded}
 use Rattle.definition_intervals.specs.Openings.{Candidate, Opening, is_possible, is_certain, candidate, candidates, surely_creates, from_creation, opening, reported_structure, report_opening, boot_openings, openings}
-use Rattle.definition_intervals.specs.Findings.{IsFormedCandidate, IsFormedOpening, IsGroundedRequest, IsGroundedReport, IsGrounded, with_request}
+use Rattle.definition_intervals.specs.Findings.{IsFormedCandidate, IsFormedOpening, with_request}
 use Rattle.definition_intervals.proofs.CandidateLemmas.{change_found}
 
 -- one more member with its number
@@ -167,6 +171,10 @@ change-formed t key (Hk r) j x c is e h =
 change-formed t key (Stat r) j x c is e h = absurd (let no : None ≡ Some c → ⊥ = λ e. cc in no (sym (on_statistics-none key _ j x e) ∙ h))
 change-formed t key (Par r) j x c is e h = absurd (let no : None ≡ Some c → ⊥ = λ e. cc in no (sym (values-none key r j x e) ∙ h))
 
+-- a request of the grammar with few instructions
+abbrev IsGroundedRequest : TailoringParts → Request → Type 0
+IsGroundedRequest t r = IsRequest t r × (length (instructions r) ≤ 255)
+
 candidate-formed : (t : TailoringParts) (h : History) (key : Key) (from tag n : ℕ) (s : Sent) (c : Candidate) → IfSome s.request (IsGroundedRequest t)
     → candidate h key from tag (n, s) ≡ Some c → IsFormedCandidate t c
 candidate-formed t h key from tag n s c grounded e = go (is_possible h from tag n) s.request grounded e
@@ -176,7 +184,7 @@ candidate-formed t h key from tag n s c grounded e = go (is_possible h from tag 
     found r None g p q = absurd (let no : None ≡ Some c → ⊥ = λ e. cc in no q)
     found r (Some d) g p q =
         let f = change_found key (instructions r) 1 d.0 d.1 p in
-        let own : IsGrammarChange t d.1 = change-formed t key r.body f.0 f.1 d.1 g.0 f.3 f.4 in
+        let own : IsGrammarChange t d.1 = change-formed t key r.body f.0 f.1 d.1 g.0.body f.3 f.4 in
         subst (λ (x : Candidate). IsFormedCandidate t x) (some_value _ c q) own
 
     go : (b : Bool) (o : Option Request) → IfSome o (IsGroundedRequest t)
@@ -224,9 +232,22 @@ opening-formed g key tag from state grounded formed =
     go None later = record { state = formed; requests = All-from_recursion (IsFormedCandidate g.tailoring) (candidates g.history key from tag) all }
     go (Some r) later = record { state = tt; requests = All-from_recursion (IsFormedCandidate g.tailoring) r (later r refl) }
 
-report-formed : (g : Ground) (key : Key) (tag : ℕ) (k : Kept) (o : Opening) → IsGrounded g → IsGroundedReport g.tailoring k.report.body → report_opening g.history key tag k ≡ Some o
+-- the structure of a report of the grammar is valid, the size of its payload aside
+reported-state : (t : TailoringParts) (key : Key) (body : ReportBody) → IsReportBody t body → IsFormedState t (reported_structure key body)
+reported-state t key (tell.Hk (hk.Structure named s)) is = go (key_eq named key)
+  where
+    go : (b : Bool) → IsFormedState t (if b then Some s else None)
+    go true = reported-formed t named s is
+    go false = tt
+reported-state t key (tell.Hk (hk.Values named payload)) is = tt
+reported-state t key (tell.Hk (hk.Periodic kind rows)) is = tt
+reported-state t key (tell.Verify v) is = tt
+reported-state t key (tell.Stat r) is = tt
+reported-state t key (tell.Par r) is = tt
+
+report-formed : (g : Ground) (key : Key) (tag : ℕ) (k : Kept) (o : Opening) → IsGrounded g → IsReport g.tailoring k.report → report_opening g.history key tag k ≡ Some o
     → IsFormedOpening g.tailoring o
-report-formed g key tag k o grounded formed e = go (nat_lt (tag_of k) tag) (reported_structure key k.report.body) (formed key) e
+report-formed g key tag k o grounded formed e = go (nat_lt (tag_of k) tag) (reported_structure key k.report.body) (reported-state g.tailoring key k.report.body formed.body) e
   where
     go : (b : Bool) (s : Option Structure) → IsFormedState g.tailoring s
         → (if b then option_map (λ x. opening g.history key tag (tag_of k) (Some x)) s else None) ≡ Some o → IsFormedOpening g.tailoring o
@@ -254,7 +275,7 @@ openings-formed g key tag grounded boot =
     each : (o : Opening) → IsIn o (filter_map (report_opening g.history key tag) g.history.kept) → IsFormedOpening g.tailoring o
     each o i =
         let r = IsIn-filter_map (report_opening g.history key tag) o g.history.kept i in
-        report-formed g key tag r.0 o grounded (AllByRecursion-IsIn (λ k. IsGroundedReport g.tailoring k.report.body) r.0 g.history.kept grounded.reports r.1) r.2
+        report-formed g key tag r.0 o grounded (AllByRecursion-IsIn (IsGrammarKept g.tailoring) r.0 g.history.kept grounded.reports r.1) r.2
 
 -- a step of the loop over kept packets
 pub reports-step : (h : History) (key : Key) (tag n : ℕ) (front : List Opening) (k : Kept) (o : Option Opening) → slice_get h.kept n ≡ Some k → o ≡ report_opening h key tag k

@@ -1,17 +1,11 @@
 -- What functions find of the states that are possible, and what they want of openings.
-use Rattle.std.specs.Prelude.{◌≡◌, ◌≤◌, List, [], ◌++◌, ◌∷◌, length, Bool, true, false, not, filter, nat_lt, Option, Some, None, IfSome, if◌then◌else◌}
-use Rattle.std.specs.List.{All, AllByRecursion, IsDistinct, list_any}
+use Rattle.std.specs.Prelude.{◌≡◌, ◌≤◌, List, [], ◌++◌, ◌∷◌, length, Bool, true, false, not, filter, nat_lt, Option, Some, None, if◌then◌else◌}
+use Rattle.std.specs.List.{All, IsDistinct, list_any}
 use Rattle.hk_base.specs.TailoringParts.{TailoringParts}
-use Rattle.hk_base.specs.declared.types.Key.{Key}
 use Rattle.hk_base.specs.declared.types.Definition.{Definition}
 use Rattle.hk_base.specs.declared.types.Structure.{Structure}
 use Rattle.report_structures.specs.Changes.{IsGrammarChange, IsFormedState}
-use Rattle.pus_messages.specs.Instructions.{instructions}
-use Rattle.pus_messages.specs.Spelling.{IsRequestBody}
-use Rattle.pus_messages.specs.declared.message.Request.{Request}
-use Rattle.pus_messages.specs.declared.message.ReportBody.{ReportBody}
-use Rattle.ground_history.specs.Ground.{Ground}
-use Rattle.definition_intervals.specs.Openings.{Candidate, Opening, surely_creates, reported_structure}
+use Rattle.definition_intervals.specs.Openings.{Candidate, Opening, surely_creates}
 use Rattle.definition_intervals.specs.States.{definition_eq, state_eq, states_from, is_crowded}
 use Rattle.definition_intervals.specs.Verdicts.{common_states}
 
@@ -73,16 +67,3 @@ with_request o c =
     if surely_creates c
     then record { tag = o.tag; state = None; requests = c ∷ [] }
     else record { tag = o.tag; state = o.state; requests = o.requests ++ c ∷ [] }
-
--- a request of the grammar with few instructions
-abbrev pub IsGroundedRequest : TailoringParts → Request → Type 0
-IsGroundedRequest t r = IsRequestBody t r.body × (length (instructions r) ≤ 255)
-
--- a report whose structure, if it tells one, is valid, its payload size aside
-abbrev pub IsGroundedReport : TailoringParts → ReportBody → Type 0
-IsGroundedReport t body = (key : Key) → IsFormedState t (reported_structure key body)
-
--- what is known is of requests and reports that are of the grammar
-pub record IsGrounded (g : Ground) : Type 0 where
-  pub requests : AllByRecursion (λ s. IfSome s.request (IsGroundedRequest g.tailoring)) g.history.requests
-  pub reports : AllByRecursion (λ k. IsGroundedReport g.tailoring k.report.body) g.history.kept

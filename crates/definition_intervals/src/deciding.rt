@@ -7,7 +7,7 @@ ghost use Rattle.report_structures.specs.Changes.{IsFormedState};
 ghost use Rattle.definition_intervals.specs.Verdicts as verdicts;
 ghost use Rattle.definition_intervals.specs.Verdicts.{verdict_by, verdict_of};
 ghost use Rattle.definition_intervals.specs.Findings as findings;
-ghost use Rattle.definition_intervals.specs.Findings.{IsGrounded, IsFormedOpening, AreCommon, is_agreed};
+ghost use Rattle.definition_intervals.specs.Findings.{IsFormedOpening, AreCommon, is_agreed};
 
 use crate::answer::Verdict;
 use crate::equality::is_same_definition;
@@ -28,8 +28,7 @@ pub fn verdict(
     tag: u64,
     payload: &[u8],
 ) -> Result<Verdict, Memory>
-    requires grounded { IsGrounded history.now }
-    requires limit { length payload.now ≤ 2147483648 }
+    requires { length payload.now ≤ 2147483648 }
     ensures { IfOk result (λ verdict. verdict ≡ verdicts.verdict history.now.tailoring history.now.history key tag payload.now) }
 {
     let openings = openings(alloc, history, key, tag)?;

@@ -5,8 +5,9 @@ ghost use Rattle.hk_base.specs.Parameters.{boot_structure, key_eq};
 ghost use Rattle.report_structures.specs.Changes.{IsFormedState};
 ghost use Rattle.st03_grammar.specs.Instructions.{change_of};
 ghost use Rattle.ground_history.specs.Histories.{Sent, Kept};
+ghost use Rattle.ground_history.specs.Ground.{IsGrounded};
 ghost use Rattle.definition_intervals.specs.Openings as openings;
-ghost use Rattle.definition_intervals.specs.Findings.{IsGrounded, IsFormedOpening, with_request};
+ghost use Rattle.definition_intervals.specs.Findings.{IsFormedOpening, with_request};
 
 use crate::opening::{Candidate, Opening};
 use ground_history::{History, Outcome};

@@ -5,7 +5,8 @@ ghost use Rattle.pus_messages.specs.Protocol.{readable};
 ghost use Rattle.ground_history.specs.Histories as histories;
 ghost use Rattle.ground_history.specs.Histories.{tag_of, new_history, sent_answer, got_kind, history_with_sent};
 ghost use Rattle.ground_history.specs.Evidence as evidence;
-ghost use Rattle.ground_history.specs.Ground.{HasNumber, IsAnswer, IsCountOf, with_history, is_room_for, got_result, report_result, own_count, answer_by_count};
+ghost use Rattle.pus_messages.specs.Spelling.{IsReport};
+ghost use Rattle.ground_history.specs.Ground.{IsGrounded, HasNumber, IsAnswer, IsCountOf, with_history, is_room_for, got_result, report_result, own_count, answer_by_count};
 
 use crate::answer::{GotKind, Outcome, SentFault};
 use crate::evidence::Evidence;
@@ -38,13 +39,13 @@ pub struct History {
 
 impl Model for History {
     ghost use Rattle.ground_history.specs.Indexes.{Says};
-    ghost use Rattle.ground_history.specs.Ground.{Ground};
+    ghost use Rattle.ground_history.specs.Ground.{Ground, IsGrounded};
 
     ghost Value = { Ground };
 
     ghost view = { λ h. record { tailoring = h.tailoring; history = record { known = h.known; long = h.long; requests = h.requests; kept = h.kept } } };
 
-    ghost invariant = { λ h. Says h.evidence h.kept };
+    ghost invariant = { λ h. Says h.evidence h.kept × IsGrounded (record { tailoring = h.tailoring; history = record { known = h.known; long = h.long; requests = h.requests; kept = h.kept } }) };
 }
 
 impl History {
@@ -185,7 +186,8 @@ impl History {
     }
 
     pub fn tailoring(&self) -> &Tailoring
-        ensures { result.now ≡ self.now.tailoring }
+        ensures tailoring { result.now ≡ self.now.tailoring }
+        ensures grounded { IsGrounded self.now }
     {
         &self.tailoring
     }
@@ -365,6 +367,7 @@ impl History {
 
     /// A report that was received: what becomes of it.
     fn got_report(&mut self, bytes: &[u8], report: Report) -> Result<GotKind, Memory>
+        requires { IsReport self.old.tailoring report }
         ensures kind { IfOk result (λ kind. kind ≡ histories.kind_by_reception self.old.history bytes.now (readable report)) }
         ensures state { self.new ≡ with_history self.old (report_result self.old.history bytes.now report result) }
     {
@@ -403,6 +406,7 @@ impl History {
         requires number { number ≡ histories.number_of_body self.old.history report.header.tag report.body }
         requires sent { IfSome number (λ k. k < 2 ^ 63) }
         requires absent { histories.kept_at self.old.history report.header.tag ≡ None }
+        requires grammar { IsReport self.old.tailoring report }
         ensures kept { OnOk result (self.new ≡ with_history self.old (histories.with_kept self.old.history bytes.now report)) }
         ensures same { OnErr result (self.new ≡ self.old) }
     {

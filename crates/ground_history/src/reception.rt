@@ -1,9 +1,10 @@
-ghost use Rattle.std.specs.Prelude.{◌≡◌, ◌≤◌, ◌^◌, ◌==◌, IfOk, length};
+ghost use Rattle.std.specs.Prelude.{◌≡◌, ◌≤◌, ◌^◌, ◌==◌, IfOk, IfSome, length};
 ghost use Rattle.std.specs.Option.{option_copied};
 ghost use Rattle.std.specs.Result.{result_ok};
 ghost use Rattle.pus_messages.specs.Messages as messages;
 ghost use Rattle.pus_messages.specs.Instructions.{subject, instructions};
-ghost use Rattle.ground_history.specs.Ground.{reception_of};
+ghost use Rattle.pus_messages.specs.Spelling.{IsRequest};
+ghost use Rattle.ground_history.specs.Ground.{IsGrammarReceived, reception_of};
 
 use hk_base::{Memory, RequestId, Tailoring};
 use pus_messages::{MessageFault, Report, Request, RequestBody, read_report, read_request};
@@ -31,7 +32,8 @@ pub(crate) fn receive(
     bytes: &[u8],
 ) -> Result<Received, Memory>
     requires { length bytes.now ≤ 2 ^ 31 }
-    ensures { IfOk result (λ what. reception_of what ≡ messages.reception tailoring.now bytes.now) }
+    ensures reception { IfOk result (λ what. reception_of what ≡ messages.reception tailoring.now bytes.now) }
+    ensures grammar { IfOk result (IsGrammarReceived tailoring.now) }
 {
     if let Some(apid) = apid_of(bytes) {
         if apid != tailoring.widths().apid {
@@ -70,7 +72,8 @@ pub(crate) fn asked(
     bytes: &[u8],
 ) -> Result<Option<Request>, Memory>
     requires { length bytes.now ≤ 2 ^ 31 }
-    ensures { IfOk result (λ request. request ≡ result_ok (messages.request_of tailoring.now bytes.now)) }
+    ensures request { IfOk result (λ request. request ≡ result_ok (messages.request_of tailoring.now bytes.now)) }
+    ensures grammar { IfOk result (λ request. IfSome request (λ known. IsRequest tailoring.now known × (length (instructions known) ≤ 255))) }
 {
     match read_request(alloc, tailoring, bytes) {
         Ok(request) => Ok(Some(request)),

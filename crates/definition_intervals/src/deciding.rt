@@ -31,14 +31,9 @@ pub fn verdict(
     requires { length payload.now ≤ 2147483648 }
     ensures { IfOk result (λ verdict. verdict ≡ verdicts.verdict history.now.tailoring history.now.history key tag payload.now) }
 {
+    let tailoring = history.tailoring();
     let openings = openings(alloc, history, key, tag)?;
-    verdict_over(
-        alloc,
-        history.tailoring(),
-        tag,
-        payload,
-        openings.as_slice(),
-    )
+    verdict_over(alloc, tailoring, tag, payload, openings.as_slice())
 }
 
 /// The verdict on a report with this tag and payload, from all openings of its structure.

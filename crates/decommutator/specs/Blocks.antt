@@ -20,8 +20,8 @@ use Rattle.pus_messages.specs.declared.message.ReportBody.{ReportBody}
 use Rattle.pus_messages.specs.declared.message.ReportBody.TheVariants.{Verify, Hk, Stat, Par}
 use Rattle.ground_history.specs.Histories.{Kept, History, tag_of}
 use Rattle.definition_intervals.specs.Verdicts.{verdict}
-use Rattle.definition_intervals.specs.declared.verdict.Verdict.{Verdict}
-use Rattle.definition_intervals.specs.declared.verdict.Verdict.TheVariants.{Decided, Undecidable, Crowded, NoOpening, Impossible}
+use Rattle.definition_intervals.specs.declared.answer.Verdict.{Verdict}
+use Rattle.definition_intervals.specs.declared.answer.Verdict.TheVariants.{Decided, Undecidable, Crowded, NoOpening, Impossible}
 
 -- the end of a line
 abbrev pub line_end : List ℕ

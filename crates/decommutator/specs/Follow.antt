@@ -8,8 +8,8 @@ use Rattle.pus_messages.specs.declared.message.ReportBody.{ReportBody}
 use Rattle.pus_messages.specs.declared.message.ReportBody.TheVariants.{Hk}
 use Rattle.ground_history.specs.Histories.{Kept, History, tag_of}
 use Rattle.definition_intervals.specs.Verdicts.{verdict}
-use Rattle.definition_intervals.specs.declared.verdict.Verdict.{Verdict}
-use Rattle.definition_intervals.specs.declared.verdict.Verdict.TheVariants.{Decided}
+use Rattle.definition_intervals.specs.declared.answer.Verdict.{Verdict}
+use Rattle.definition_intervals.specs.declared.answer.Verdict.TheVariants.{Decided}
 use Rattle.session_record.specs.declared.header.Header.{Header}
 use Rattle.session_record.specs.declared.entry.Entry.{Entry}
 use Rattle.decommutator.specs.Sessions.{known_after, kinds_after}

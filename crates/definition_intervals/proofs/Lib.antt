@@ -8,6 +8,12 @@ pub mod StateLemmas
 pub mod KnownFacts
 pub mod CandidateLemmas
 pub mod ContainmentLemmas
+pub mod SetLemmas
+pub mod ReachLemmas
+pub mod CommonLemmas
+pub mod NewestLemmas
+pub mod AgreementLemmas
+pub mod GatherLemmas
 pub mod VerdictLemmas
 pub mod WorldContainment
 pub mod SoundLemmas

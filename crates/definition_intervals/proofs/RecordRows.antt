@@ -10,7 +10,7 @@ use Rattle.hk_world.specs.Worlds.{Entry, sent, got}
 use Rattle.ground_history.specs.Histories.{History, history_of, got_kind}
 use Rattle.ground_history.specs.declared.answer.GotKind.TheVariants.{Repeat, Conflict, Foreign, Skipped, Unread, Stray}
 use Rattle.definition_intervals.specs.Verdicts.{verdict}
-use Rattle.definition_intervals.specs.declared.verdict.Verdict.TheVariants.{Decided, Undecidable, NoOpening}
+use Rattle.definition_intervals.specs.declared.answer.Verdict.TheVariants.{Decided, Undecidable, NoOpening}
 
 -- a report of housekeeping 1, and another with its tag
 abbrev report_one : List ℕ

@@ -16,7 +16,7 @@ use Rattle.pus_messages.specs.declared.message.ReportBody.TheVariants as tell
 use Rattle.ground_history.specs.Histories.{History, Sent, Kept}
 use Rattle.definition_intervals.specs.Openings.{is_settled}
 use Rattle.definition_intervals.specs.Verdicts.{verdict}
-use Rattle.definition_intervals.specs.declared.verdict.Verdict.TheVariants.{Decided, Undecidable, Crowded}
+use Rattle.definition_intervals.specs.declared.answer.Verdict.TheVariants.{Decided, Undecidable, Crowded}
 
 abbrev hk_key : ℕ → Key
 hk_key id = key_of Housekeeping id

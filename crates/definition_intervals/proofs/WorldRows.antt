@@ -9,7 +9,7 @@ use Rattle.hk_world.proofs.ExecutedExample.{commanded}
 use Rattle.ground_history.specs.Histories.{Kept}
 use Rattle.ground_history.specs.Bounds.{history_in}
 use Rattle.definition_intervals.specs.Soundness.{HasReport, IsContained, IsSound, verdict_in}
-use Rattle.definition_intervals.specs.declared.verdict.Verdict.TheVariants.{Decided}
+use Rattle.definition_intervals.specs.declared.answer.Verdict.TheVariants.{Decided}
 use Rattle.definition_intervals.proofs.KnownWorlds.{containment_holds, verdicts_sound}
 
 abbrev one : Key

@@ -20,8 +20,8 @@ use Rattle.ground_history.specs.Evidence.{is_barred}
 use Rattle.definition_intervals.specs.Openings.{Opening, Candidate, openings, is_open, is_settled}
 use Rattle.definition_intervals.specs.States.{is_possible_from}
 use Rattle.definition_intervals.specs.Verdicts.{verdict}
-use Rattle.definition_intervals.specs.declared.verdict.Verdict.{Verdict}
-use Rattle.definition_intervals.specs.declared.verdict.Verdict.TheVariants.{Decided, Undecidable, Crowded, Impossible}
+use Rattle.definition_intervals.specs.declared.answer.Verdict.{Verdict}
+use Rattle.definition_intervals.specs.declared.answer.Verdict.TheVariants.{Decided, Undecidable, Crowded, Impossible}
 
 -- a parameter report of a structure was kept with a tag and a payload
 abbrev pub HasReport : History → Key → ℕ → List ℕ → Type 0

@@ -5,15 +5,16 @@ ghost use Rattle.pus_messages.specs.Protocol.{readable};
 ghost use Rattle.ground_history.specs.Histories as histories;
 ghost use Rattle.ground_history.specs.Histories.{tag_of, new_history, sent_answer, got_kind, history_with_sent};
 ghost use Rattle.ground_history.specs.Evidence as evidence;
-ghost use Rattle.ground_history.specs.Ground.{HasNumber, IsAnswer, IsCountOf, with_history, is_room_for, got_result, report_result, own_count, answer_by_count};
+ghost use Rattle.pus_messages.specs.Spelling.{IsReport};
+ghost use Rattle.ground_history.specs.Ground.{IsGrounded, HasNumber, IsAnswer, IsCountOf, with_history, is_room_for, got_result, report_result, own_count, answer_by_count};
 
 use crate::answer::{GotKind, Outcome, SentFault};
-use crate::asked::{asked, is_alone};
 use crate::evidence::Evidence;
 use crate::kept::{KeptPacket, KeptPackets};
+use crate::reception::{Received, asked, is_alone, receive, subject_of};
 use crate::requests::{Requests, SentRequest};
 use hk_base::{Items, Memory, RequestId, Tailoring};
-use pus_messages::{Reception, Report, ReportBody, Request, receive, subject};
+use pus_messages::{Report, ReportBody, Request};
 use pus_packet::split_tc;
 use std::alloc::Global;
 use std::marker::Model;
@@ -38,13 +39,13 @@ pub struct History {
 
 impl Model for History {
     ghost use Rattle.ground_history.specs.Indexes.{Says};
-    ghost use Rattle.ground_history.specs.Ground.{Ground};
+    ghost use Rattle.ground_history.specs.Ground.{Ground, IsGrounded};
 
     ghost Value = { Ground };
 
     ghost view = { λ h. record { tailoring = h.tailoring; history = record { known = h.known; long = h.long; requests = h.requests; kept = h.kept } } };
 
-    ghost invariant = { λ h. Says h.evidence h.kept };
+    ghost invariant = { λ h. Says h.evidence h.kept × IsGrounded (record { tailoring = h.tailoring; history = record { known = h.known; long = h.long; requests = h.requests; kept = h.kept } }) };
 }
 
 impl History {
@@ -83,10 +84,10 @@ impl History {
         ensures state { self.new ≡ with_history self.old (got_result (protocol self.old.tailoring) self.old.history bytes.now result) }
     {
         match receive(self.alloc, &self.tailoring, bytes)? {
-            Reception::Foreign(apid) => Ok(GotKind::Foreign(apid)),
-            Reception::Skipped(service, subtype) => Ok(GotKind::Skipped(service, subtype)),
-            Reception::Unread => Ok(GotKind::Unread),
-            Reception::Readable(report) => self.got_report(bytes, report),
+            Received::Foreign(apid) => Ok(GotKind::Foreign(apid)),
+            Received::Skipped(service, subtype) => Ok(GotKind::Skipped(service, subtype)),
+            Received::Unread => Ok(GotKind::Unread),
+            Received::Readable(report) => self.got_report(bytes, report),
         }
     }
 
@@ -184,14 +185,14 @@ impl History {
         self.known
     }
 
-    /// The tailoring of the board.
     pub fn tailoring(&self) -> &Tailoring
-        ensures { result.now ≡ self.now.tailoring }
+        ensures tailoring { result.now ≡ self.now.tailoring }
+        ensures grounded { IsGrounded self.now }
     {
         &self.tailoring
     }
 
-    /// Whether the session is a long one, in which counts are used again.
+    /// Whether the start of the session is a long one's.
     pub fn long(&self) -> bool
         ensures { result ≡ self.now.history.long }
     {
@@ -366,6 +367,7 @@ impl History {
 
     /// A report that was received: what becomes of it.
     fn got_report(&mut self, bytes: &[u8], report: Report) -> Result<GotKind, Memory>
+        requires { IsReport self.old.tailoring report }
         ensures kind { IfOk result (λ kind. kind ≡ histories.kind_by_reception self.old.history bytes.now (readable report)) }
         ensures state { self.new ≡ with_history self.old (report_result self.old.history bytes.now report result) }
     {
@@ -392,7 +394,7 @@ impl History {
         let ReportBody::Verify(verification) = &report.body else {
             return Ok(None);
         };
-        let id = subject(verification);
+        let id = subject_of(verification);
         match self.requests.verified(self.long, id, report.header.tag) {
             Some(number) => Ok(Some(number)),
             None => Err(id),
@@ -404,6 +406,7 @@ impl History {
         requires number { number ≡ histories.number_of_body self.old.history report.header.tag report.body }
         requires sent { IfSome number (λ k. k < 2 ^ 63) }
         requires absent { histories.kept_at self.old.history report.header.tag ≡ None }
+        requires grammar { IsReport self.old.tailoring report }
         ensures kept { OnOk result (self.new ≡ with_history self.old (histories.with_kept self.old.history bytes.now report)) }
         ensures same { OnErr result (self.new ≡ self.old) }
     {

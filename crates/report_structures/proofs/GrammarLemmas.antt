@@ -62,7 +62,7 @@ arrays_of_grammar t once interval simple earlier (a ∷ others) are = (
   arrays_of_grammar t once interval simple (a ∷ earlier) others are.1,
 )
 
-all_divide : (t : TailoringParts) (once : Bool) (n : ℕ) (simple : List ℕ) (earlier arrays : List SuperList) → AreArrays t once (Some n) simple earlier arrays → AllDivide n arrays
+pub all_divide : (t : TailoringParts) (once : Bool) (n : ℕ) (simple : List ℕ) (earlier arrays : List SuperList) → AreArrays t once (Some n) simple earlier arrays → AllDivide n arrays
 all_divide t once n simple earlier [] are = tt
 all_divide t once n simple earlier (a ∷ others) are = (divides n a.repetition are.0.repetition, all_divide t once n simple (a ∷ earlier) others are.1)
 
@@ -79,7 +79,7 @@ some_listed t once interval (id ∷ simple) arrays are = omega arith
 some_listed t once interval [] [] are = absurd (omega (arith, are.array_count.0))
 some_listed t once interval [] (a ∷ arrays) are = omega (arith, are.listed.0.count.0, length-append a.params (flat_map (λ x. x.params) arrays))
 
-lists_of_grammar : (t : TailoringParts) (once : Bool) (interval : Option ℕ) (simple : List ℕ) (arrays : List SuperList)
+pub lists_of_grammar : (t : TailoringParts) (once : Bool) (interval : Option ℕ) (simple : List ℕ) (arrays : List SuperList)
     → AreLists t once interval simple arrays → AreGrammarLists t simple arrays
 lists_of_grammar t once interval simple arrays are =
     record {

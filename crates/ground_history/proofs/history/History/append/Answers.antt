@@ -8,4 +8,4 @@ pub returns-clause-added : goal.returns-clause-added
 returns-clause-added c =
     rw (← c.self.view_is)
     (appended (the_view c.self.inside) c.push.new.self c.in_ok-packet.packet c.args.bytes.now c.in_ok-request.request c.newest-floor.result
-    (c.in_ok-push.ensures.pushed ∙ ap (λ (r : Sent). c.self.inside.requests ++ r ∷ []) c.new.ensures) c.in_ok-packet.ensures c.in_ok-request.ensures c.newest-floor.ensures)
+    (c.in_ok-push.ensures.pushed ∙ ap (λ (r : Sent). c.self.inside.requests ++ r ∷ []) c.new.ensures) c.in_ok-packet.ensures c.in_ok-request.ensures.request c.newest-floor.ensures)

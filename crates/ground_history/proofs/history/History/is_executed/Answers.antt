@@ -9,7 +9,7 @@ use Rattle.ground_history.proofs.history.History.is_executed.Goals as goal
 
 pub returns : goal.returns
 returns c =
-    let says : Says c.self.inside.evidence c.args.self.now.history.kept = subst (λ (g : Ground). Says c.self.inside.evidence g.history.kept) c.self.view_is c.self.invariant in
+    let says : Says c.self.inside.evidence c.args.self.now.history.kept = subst (λ (g : Ground). Says c.self.inside.evidence g.history.kept) c.self.view_is c.self.invariant.0 in
     let shown : Shown = shown_at c.self.inside.evidence.shown c.args.k in
     ap (λ (s : Shown). (s.completed || c.is_marked.result) || (c.is_alone.result && s.started)) c.at-shown.ensures
     ∙ (ap (λ (b : Bool). (shown.completed || b) || (c.is_alone.result && shown.started)) c.is_marked.ensures

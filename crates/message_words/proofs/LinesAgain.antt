@@ -22,7 +22,8 @@ use Rattle.message_words.specs.Grammar.{IsOfGround}
 use Rattle.message_words.specs.Reading.{typed, body_in, request_with, request_named, with_words, is_ascii, request_in_words}
 use Rattle.message_words.specs.declared.bodies.TypedBody.{TypedBody}
 use Rattle.message_words.proofs.NumberLemmas.{number_in-decimal, hex_value-hex}
-use Rattle.message_words.proofs.LineLemmas.{IsWord, AreWords, decimal-word, split-words, ascii-words, both_true}
+use Rattle.message_words.specs.Lines.{IsWord, AreWords}
+use Rattle.message_words.proofs.LineLemmas.{decimal-word, split-words, ascii-words, both_true}
 use Rattle.message_words.proofs.SpelledLists.{AreNarrow, narrow}
 use Rattle.message_words.proofs.BodiesAgain.{Again03, Again04, Again20, housekeeping-again, statistics-again, values-again}
 use Rattle.message_words.proofs.WordsOfBodies.{housekeeping-words, statistics-words, request20-words, hex-word}

@@ -42,10 +42,6 @@ hex_digit n = if nat_lt n 10 then 48 + n else 87 + n
 abbrev pub hex : ℕ → ℕ → List ℕ
 hex places n = map hex_digit (digits 16 places n)
 
--- octets as two digits each
-abbrev pub hex_octets : List ℕ → List ℕ
-hex_octets octets = flat_map (hex 2) octets
-
 -- words as a text
 abbrev pub text_of_words : List (List ℕ) → List ℕ
 text_of_words words = join_with_byte 32 words

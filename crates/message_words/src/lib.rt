@@ -14,10 +14,12 @@ mod requests;
 mod words;
 
 pub use fault::WordsFault;
-pub use laws::words_are_read_back;
-pub use reading::read_words;
+pub use laws::{lines_are_divided, numbers_are_read_back, words_are_read_back};
+pub use numbers::{number_in, value_in, wide_number_in};
+pub use reading::{ascii_text, read_words, words_in};
 pub use reports::report_words;
 pub use requests::request_words;
+pub use words::push_numbers;
 
 #[cfg(test)]
 mod tests;

@@ -42,7 +42,7 @@ fn request_in_line(alloc: Global, tailoring: &Tailoring, line: &[u8]) -> Result<
 }
 
 /// The line as a text, if it is ASCII.
-fn ascii_text(line: &[u8]) -> Option<&str>
+pub fn ascii_text(line: &[u8]) -> Option<&str>
     ensures { option_copied result ≡ (if is_ascii line.now then Some line.now else None) }
 {
     if !is_ascii(line) {
@@ -61,7 +61,7 @@ fn is_ascii(line: &[u8]) -> bool
 }
 
 /// The words of a line, which one blank divides.
-fn words_in(alloc: Global, line: &str) -> Result<Vec<&str>, AllocError>
+pub fn words_in(alloc: Global, line: &str) -> Result<Vec<&str>, AllocError>
     ensures { IfOk result (λ words. map (λ word. word.now) words.items ≡ slice_split (λ octet. octet == 32) line.now) }
 {
     line.split(' ').collect(alloc)

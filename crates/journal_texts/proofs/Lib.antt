@@ -1,0 +1,4 @@
+pub mod ActsAgain
+pub mod PacketsAgain
+pub mod MomentsAgain
+mod TextRows

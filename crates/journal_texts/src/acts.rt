@@ -50,11 +50,7 @@ fn execution_in(words: &[&str]) -> Result<Act, JournalFault>
     let [request, number, done] = words else {
         return Err(JournalFault::BadLine);
     };
-    Ok(Act::Executed(
-        wide_number_in(request),
-        number_in(number),
-        *done == "done",
-    ))
+    Ok(Act::Executed(wide_number_in(request), number_in(number), *done == "done"))
 }
 
 /// A request, and its instructions that were refused.
@@ -65,10 +61,7 @@ fn completion_in(alloc: Global, words: &[&str]) -> Result<Act, JournalFault>
         return Err(JournalFault::BadLine);
     };
     let refused = numbers_in(alloc, refused)?;
-    Ok(Act::Completed(
-        wide_number_in(request),
-        Items::from_vec(refused),
-    ))
+    Ok(Act::Completed(wide_number_in(request), Items::from_vec(refused)))
 }
 
 /// The numbers that words stand for.
@@ -85,9 +78,5 @@ fn filing_in(words: &[&str]) -> Result<Act, JournalFault>
     let [param, slot, value] = words else {
         return Err(JournalFault::BadLine);
     };
-    Ok(Act::Filed(
-        number_in(param),
-        wide_number_in(slot),
-        value_in(value),
-    ))
+    Ok(Act::Filed(number_in(param), wide_number_in(slot), value_in(value)))
 }

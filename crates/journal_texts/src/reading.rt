@@ -72,11 +72,7 @@ fn moment_at(alloc: Global, tag: u64, words: &[&str]) -> Result<Moment, JournalF
 }
 
 /// The moment with this tag that the words of its act and those of its packet name.
-fn moment_in_sections(
-    alloc: Global,
-    tag: u64,
-    sections: &[&[&str]],
-) -> Result<Moment, JournalFault>
+fn moment_in_sections(alloc: Global, tag: u64, sections: &[&[&str]]) -> Result<Moment, JournalFault>
     ensures { Gives result (texts.moment_in_sections tag (map (λ section. map (λ word. word.now) section.now) sections.now)) }
 {
     let [act, packets @ ..] = sections else {

@@ -19,6 +19,7 @@ use Rattle.journal_texts.specs.Reading.{act_in, packet_in, is_packet, moment_wit
 use Rattle.journal_texts.specs.declared.fault.JournalFault.{JournalFault}
 use Rattle.journal_texts.specs.declared.fault.JournalFault.TheVariants.{BadLine}
 use Rattle.journal_texts.proofs.ActsAgain.{AreReadBack, act-again, act-words, act-unmarked}
+use Rattle.journal_texts.proofs.RangeLemmas.{moment-fits}
 use Rattle.journal_texts.proofs.PacketsAgain.{packet_sections, packet-words, sections-again, packet-again}
 
 -- words are found again in a line of them, which is ASCII
@@ -51,17 +52,18 @@ if_some : {X : Type 0} (b : Bool) (o : Option X) (x : X) → (if b then o else N
 if_some true o x e = (refl, e)
 if_some false o x e = absurd (none-some x e)
 
-with_text_some : (text : List ℕ) (o : Option Moment) (m : Moment) → with_text text o ≡ Some m → journal_text m ≡ text
+with_text_some : (text : List ℕ) (o : Option Moment) (m : Moment) → with_text text o ≡ Some m → (o ≡ Some m) × (journal_text m ≡ text)
 with_text_some text None m e = absurd (none-some m e)
 with_text_some text (Some x) m e =
     let passed = if_some (bytes_eq (journal_text x) text) (Some x) m e in
-    ap journal_text (sym (same_Some x m passed.1)) ∙ (bytes_eq-Decides (journal_text x) text).0 passed.0
+    (passed.1, ap journal_text (sym (same_Some x m passed.1)) ∙ (bytes_eq-Decides (journal_text x) text).0 passed.0)
 
--- a moment is read from no other text than its own
-pub moment-only : (text : List ℕ) (m : Moment) → moment_in_text text ≡ Some m → journal_text m ≡ text
+-- a moment is read from no other text than its own, and its numbers are in the ranges of their types
+pub moment-only : (text : List ℕ) (m : Moment) → moment_in_text text ≡ Some m → IsMoment m × (journal_text m ≡ text)
 moment-only text m e =
-    let named : Option Moment = moment_in_words (slice_split (λ octet. octet == 32) text) in
-    with_text_some text named m (if_some (is_ascii text) (with_text text named) m e).1
+    let words : List (List ℕ) = slice_split (λ octet. octet == 32) text in
+    let read = with_text_some text (moment_in_words words) m (if_some (is_ascii text) (with_text text (moment_in_words words)) m e).1 in
+    (moment-fits words m read.0, read.1)
 
 -- what holds of whatever is given holds of an Ok
 pub ok_from_gives : {X : Type 0} (result : Result X JournalFault) (given : Option X) (P : X → Type 0) → ((x : X) → given ≡ Some x → P x) → Gives result given → IfOk result P

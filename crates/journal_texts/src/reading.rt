@@ -22,6 +22,7 @@ use std::alloc::Global;
 /// The moment whose text this is. The text has no line end. A packet is taken on any act.
 pub fn read_journal(alloc: Global, text: &[u8]) -> Result<Moment, JournalFault>
     ensures gives { Gives result (texts.moment_in_text text.now) }
+    ensures moment { IfOk result (λ moment. IsMoment moment) }
     ensures text { IfOk result (λ moment. journal_text moment ≡ text.now) }
     ensures bad_line { result ≡ Err BadLine → (m : Moment) → IsMoment m → journal_text m ≢ text.now }
 {

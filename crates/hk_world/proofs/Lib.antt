@@ -11,4 +11,3 @@ pub mod EndLemmas
 pub mod Example
 pub mod ExecutedExample
 pub mod LongExample
-mod TextRows

@@ -6,4 +6,3 @@ pub mod Worlds
 pub mod Undisturbed
 pub mod Examples
 pub mod LongExample
-pub mod JournalTexts

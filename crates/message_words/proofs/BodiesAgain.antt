@@ -1,7 +1,6 @@
 -- Bodies of the grammar are read from their words.
-use Rattle.std.proofs.Common.{◌≡◌, ℕ, ◌+◌, ◌^◌, ◌<◌, ◌≤◌, Bool, true, false, List, [], ◌∷◌, ◌++◌, map, flat_map, length, Option, Some, None, Result, Ok, Err, refl, ap, sym, ◌∙◌, append-nil, arith}
+use Rattle.std.proofs.Common.{◌≡◌, ℕ, ◌≤◌, Bool, true, false, List, [], ◌∷◌, ◌++◌, map, flat_map, length, Option, Some, None, Result, Ok, refl, ap, ◌∙◌, append-nil, arith}
 use Rattle.std.specs.Prelude.{codes, nat_lt, option_map, IsSome, if◌then◌else◌}
-use Rattle.std.specs.Str.{bytes_eq}
 use Rattle.std.specs.List.{AllByRecursion}
 use Rattle.std.specs.Fmt.{decimal}
 use Rattle.std.proofs.lemmas.Bool.Decides.{nat_tests}
@@ -9,7 +8,7 @@ use Rattle.hk_base.specs.TailoringParts.{TailoringParts}
 use Rattle.hk_base.specs.Fields.{octets_of}
 use Rattle.hk_base.specs.Fit.{IsFit}
 use Rattle.hk_base.specs.Parameters.{parameter}
-use Rattle.body_fields.specs.Spelling.{AllFit, counted_octets, flag_octets}
+use Rattle.body_fields.specs.Spelling.{AllFit, flag_octets}
 use Rattle.body_fields.specs.declared.fault.BodyFault.{BodyFault}
 use Rattle.hk_base.specs.declared.types.Kind.{Kind}
 use Rattle.hk_base.specs.declared.types.Kind.TheVariants.{Housekeeping, Diagnostic}
@@ -44,14 +43,14 @@ use Rattle.message_words.specs.Words.{kind_word, each_word, flag_word, deletion_
 use Rattle.message_words.specs.Numbers.{number_in}
 use Rattle.message_words.specs.Commands.{kind_in, structure_subtype, statistics_subtype}
 use Rattle.message_words.specs.BodyOctets.{field, lists_octets, list_octets, deleted, number_octets, structure_octets, statistics_octets, request20_octets}
-use Rattle.message_words.specs.Reading.{most_octets, sound, sound_body, typed, housekeeping_in, statistics_in, request20_in, body_in}
+use Rattle.message_words.specs.Reading.{most_octets, sound, sound_body, typed, housekeeping_in, statistics_in, body_in}
 use Rattle.message_words.specs.declared.commands.StructureCommand.{StructureCommand}
 use Rattle.message_words.specs.declared.commands.StructureCommand.TheVariants as structures
 use Rattle.message_words.specs.declared.commands.StatisticsCommand.{StatisticsCommand}
 use Rattle.message_words.specs.declared.commands.StatisticsCommand.TheVariants as commands
 use Rattle.message_words.specs.declared.commands.ValueCommand.TheVariants as value_commands
 use Rattle.message_words.proofs.SpelledOctets.{field-decimal, list-spelled, small}
-use Rattle.message_words.proofs.SpelledLists.{AreNarrow, narrow, lists-spelled, pairs-spelled, decimal-not_all}
+use Rattle.message_words.proofs.SpelledLists.{AreNarrow, lists-spelled, pairs-spelled, decimal-not_all}
 use Rattle.message_words.proofs.SpelledValues.{settings-spelled}
 use Rattle.message_words.proofs.Lengths.{length-list, length-lists, length-behind, length-pairs, length-settings}
 

@@ -1,5 +1,5 @@
 -- A body that can't be read.
-use Rattle.std.proofs.Common.{◌≡◌, ℕ, Bool, true, false, List, length, Option, Some, None, Result, Ok, Err, refl, ap, subst, sym, ◌∙◌, inl, inr}
+use Rattle.std.proofs.Common.{◌≡◌, ℕ, Bool, true, false, List, length, Option, Some, None, Result, Err, refl, ap, subst, sym, ◌∙◌, inl, inr}
 use Rattle.std.specs.Prelude.{◌⊎◌, nat_lt, IfSome, if◌then◌else◌}
 use Rattle.std.proofs.lemmas.Bool.{false≢true}
 use Rattle.body_fields.specs.Outcomes.{Fails}
@@ -8,7 +8,7 @@ use Rattle.body_fields.specs.declared.fault.BodyFault.TheVariants as body
 use Rattle.message_words.specs.Outcomes.{Gives, fault_of}
 use Rattle.message_words.specs.Reading.{most_octets, sound, sound_body}
 use Rattle.message_words.specs.declared.fault.WordsFault.{WordsFault}
-use Rattle.message_words.specs.declared.fault.WordsFault.TheVariants.{Form, Memory}
+use Rattle.message_words.specs.declared.fault.WordsFault.TheVariants.{Form}
 
 abbrev is_memory : BodyFault → Bool
 is_memory body.Memory = true

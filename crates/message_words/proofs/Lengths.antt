@@ -1,11 +1,10 @@
 -- How many octets a body of the grammar has.
-use Rattle.std.proofs.Common.{◌≡◌, ℕ, ◌+◌, ◌*◌, ◌^◌, ◌<◌, ◌≤◌, ℤ, List, [], ◌∷◌, ◌++◌, flat_map, length, Option, Some, None, ap, sym, ◌∙◌, arith, length-append}
+use Rattle.std.proofs.Common.{ℕ, ◌+◌, ◌*◌, ◌≤◌, List, [], ◌∷◌, ◌++◌, flat_map, length, ap, ◌∙◌, arith, length-append}
 use Rattle.std.specs.Option.{option_map_or}
 use Rattle.std.specs.List.{AllByRecursion}
 use Rattle.hk_base.specs.TailoringParts.{TailoringParts}
 use Rattle.hk_base.specs.Fields.{octets_of, signed_octets_of}
 use Rattle.hk_base.specs.Fit.{IsFit}
-use Rattle.hk_base.specs.Parameters.{parameter}
 use Rattle.body_fields.specs.Spelling as base
 use Rattle.body_fields.specs.Spelling.{counted_octets}
 use Rattle.hk_base.specs.declared.types.SuperList.{SuperList}

@@ -1,30 +1,20 @@
 -- A line of words, divided again.
-use Rattle.std.proofs.Common.{◌≡◌, ℕ, zero, suc, lit<, ◌+◌, ◌^◌, ◌<◌, ◌≤◌, Bool, true, false, List, [], ◌∷◌, ◌++◌, map, length, refl, ap, sym, ◌∙◌, arith, rules, All}
-use Rattle.std.specs.Prelude.{slice_index, ◌==◌, ◌&&◌, nat_lt, nat_le}
+use Rattle.std.proofs.Common.{◌≡◌, ℕ, zero, suc, lit<, ◌^◌, ◌<◌, ℤ, pos, negsuc, Bool, true, false, List, [], ◌∷◌, map, refl, ap, ◌∙◌, arith, rules}
+use Rattle.std.specs.Prelude.{slice_index, ◌==◌, ◌&&◌, nat_lt}
 use Rattle.std.specs.List.{AllByRecursion, list_all, slice_split}
 use Rattle.std.specs.Int.{IsInRange}
-use Rattle.std.specs.Fmt.{decimal}
+use Rattle.std.specs.Fmt.{decimal, signed_decimal}
 use Rattle.std.specs.Str.{IsUtf8}
 use Rattle.std.proofs.lemmas.Str.{IsUtf8-from_ascii}
 use Rattle.std.proofs.lemmas.Bool.Decides.{nat_tests}
 use Rattle.std.proofs.lemmas.List.Splits.{slice_split_none, slice_split_at}
 use Rattle.std.proofs.lemmas.List.Folds.{list_all-append}
 use Rattle.std.proofs.lemmas.List.Elements.{All-from_recursion}
+use Rattle.hk_base.specs.Fields.{FitsSignedOctets}
 use Rattle.message_words.specs.Words.{text_of_words}
+use Rattle.message_words.specs.Lines.{is_printed, IsWord, AreWords}
 use Rattle.message_words.specs.Reading.{is_ascii}
 use Rattle.message_words.proofs.NumberLemmas.{AreDigits, decimal-digits}
-
--- an octet that a word can have: ASCII, and no blank
-abbrev pub is_printed : ℕ → Bool
-is_printed octet = nat_le 33 octet && nat_le octet 126
-
--- octets of one word
-abbrev pub IsWord : List ℕ → Type 0
-IsWord word = list_all is_printed word ≡ true
-
--- words of a line
-abbrev pub AreWords : List (List ℕ) → Type 0
-AreWords words = AllByRecursion IsWord words
 
 pub both_true : (a b : Bool) → a ≡ true → b ≡ true → (a && b) ≡ true
 both_true a b e f = ap (λ x. x && b) e ∙ f
@@ -44,9 +34,17 @@ digits-word : (ds : List ℕ) → AreDigits ds → IsWord ds
 digits-word [] are = refl
 digits-word (c ∷ cs) are = both_true (is_printed c) (list_all is_printed cs) (printed_digit c are.0) (digits-word cs are.1)
 
+wide-word : (n : ℕ) → n < 10 ^ 64 → IsWord (decimal n)
+wide-word n l = digits-word (decimal n) (decimal-digits n l)
+
 -- the text of a number is one word
 pub decimal-word : (n : ℕ) → n < 2 ^ 64 → IsWord (decimal n)
-decimal-word n l = digits-word (decimal n) (decimal-digits n l)
+decimal-word n l = wide-word n (omega arith)
+
+-- the text of a value is one word
+pub value-word : (v : ℤ) → FitsSignedOctets 16 v → IsWord (signed_decimal v)
+value-word (pos n) fits = wide-word n (omega (arith, fits))
+value-word (negsuc n) fits = wide-word (suc n) (omega (arith, fits))
 
 -- the texts of numbers are words
 pub decimal-words : (ns : List ℕ) → AllByRecursion (λ n. n < 2 ^ 32) ns → AreWords (map decimal ns)

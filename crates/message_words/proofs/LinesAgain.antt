@@ -1,14 +1,12 @@
 -- A request of the grammar is read from its words.
-use Rattle.std.proofs.Common.{◌≡◌, ℕ, ◌^◌, ◌<◌, ◌≤◌, Bool, true, false, List, [], ◌∷◌, Option, Some, None, refl, ap, subst, sym, ◌∙◌, arith}
+use Rattle.std.proofs.Common.{◌≡◌, ℕ, Bool, true, List, ◌∷◌, Option, Some, None, refl, ap, sym, ◌∙◌, arith}
 use Rattle.std.specs.Prelude.{◌==◌, ◌&&◌, nat_lt, option_map, if◌then◌else◌}
-use Rattle.std.specs.Str.{bytes_eq}
 use Rattle.std.specs.List.{slice_split}
 use Rattle.std.specs.Fmt.{decimal}
 use Rattle.std.proofs.lemmas.Bool.Decides.{nat_tests}
 use Rattle.std.proofs.lemmas.Slice.Eq.{bytes_eq-Decides}
 use Rattle.hk_base.specs.TailoringParts.{TailoringParts}
 use Rattle.hk_base.specs.Fit.{IsFit}
-use Rattle.pus_packet.specs.declared.header.TcHeader.{TcHeader}
 use Rattle.st03_grammar.specs.Spelling as st03
 use Rattle.st04_grammar.specs.Spelling as st04
 use Rattle.st20_grammar.specs.Spelling as st20
@@ -16,14 +14,14 @@ use Rattle.pus_messages.specs.Spelling.{request_type, IsRequestBody}
 use Rattle.pus_messages.specs.declared.message.Request.{Request}
 use Rattle.pus_messages.specs.declared.message.RequestBody.{RequestBody}
 use Rattle.pus_messages.specs.declared.message.RequestBody.TheVariants as ask
-use Rattle.message_words.specs.Words.{hex, request_body_words, request_words, request_text, text_of_words}
-use Rattle.message_words.specs.Numbers.{number_in, hex_value}
+use Rattle.message_words.specs.Words.{hex, request_body_words, request_words, request_text}
+use Rattle.message_words.specs.Numbers.{hex_value}
 use Rattle.message_words.specs.Grammar.{IsOfGround}
-use Rattle.message_words.specs.Reading.{typed, body_in, request_with, request_named, with_words, is_ascii, request_in_words}
-use Rattle.message_words.specs.declared.bodies.TypedBody.{TypedBody}
+use Rattle.message_words.specs.Reading.{typed, body_in, request_with, request_named, with_words, request_in_words}
 use Rattle.message_words.proofs.NumberLemmas.{number_in-decimal, hex_value-hex}
-use Rattle.message_words.proofs.LineLemmas.{IsWord, AreWords, decimal-word, split-words, ascii-words, both_true}
-use Rattle.message_words.proofs.SpelledLists.{AreNarrow, narrow}
+use Rattle.message_words.specs.Lines.{IsWord, AreWords}
+use Rattle.message_words.proofs.LineLemmas.{decimal-word, split-words, ascii-words, both_true}
+use Rattle.message_words.proofs.SpelledLists.{narrow}
 use Rattle.message_words.proofs.BodiesAgain.{Again03, Again04, Again20, housekeeping-again, statistics-again, values-again}
 use Rattle.message_words.proofs.WordsOfBodies.{housekeeping-words, statistics-words, request20-words, hex-word}
 

@@ -2,7 +2,7 @@
 use Rattle.std.proofs.Common.{ℕ, zero, suc, ◌*◌, ◌/◌, ◌^◌, ◌<◌, Bool, true, false, ℤ, List, [], ◌∷◌, ◌++◌, flat_map, length, Option, Some, None, arith}
 use Rattle.std.specs.Prelude.{nat_lt, if◌then◌else◌}
 use Rattle.std.specs.Option.{option_map_or}
-use Rattle.std.specs.List.{AllByRecursion, slice_split}
+use Rattle.std.specs.List.{slice_split}
 use Rattle.hk_base.specs.TailoringParts.{TailoringParts}
 use Rattle.hk_base.specs.Fields.{octets_of, signed_octets_of, twos_complement}
 use Rattle.hk_base.specs.Parameters.{parameter, fits}
@@ -10,7 +10,7 @@ use Rattle.body_fields.specs.Spelling.{AreOctets}
 use Rattle.hk_base.specs.declared.types.Param.{Param}
 use Rattle.hk_base.proofs.Membership.{AllByRecursion-append}
 use Rattle.message_words.specs.Numbers.{number_in, value_in}
-use Rattle.message_words.specs.BodyOctets.{field, count_octets, number_octets, list_octets, is_array, array_octets, behind_name, section_octets, lists_octets, creation_octets, appending_octets, alternating_octets, pair_octets, value_octets, setting_octets_from, setting_octets, deleted, structure_octets, statistics_octets, request20_octets}
+use Rattle.message_words.specs.BodyOctets.{field, count_octets, number_octets, list_octets, is_array, array_octets, behind_name, section_octets, lists_octets, creation_octets, appending_octets, alternating_octets, value_octets, setting_octets_from, deleted, structure_octets, statistics_octets, request20_octets}
 use Rattle.message_words.specs.declared.commands.StructureCommand.{StructureCommand}
 use Rattle.message_words.specs.declared.commands.StructureCommand.TheVariants as structures
 use Rattle.message_words.specs.declared.commands.StatisticsCommand.{StatisticsCommand}

@@ -1,5 +1,5 @@
 -- The octets that the words of lists stand for are the spelling of the lists.
-use Rattle.std.proofs.Common.{◌≡◌, ℕ, ◌+◌, ◌*◌, ◌/◌, ◌^◌, ◌<◌, ◌≤◌, Bool, true, false, List, [], ◌∷◌, ◌++◌, map, flat_map, length, refl, ap, subst, sym, ◌∙◌, append_assoc, append-nil, arith}
+use Rattle.std.proofs.Common.{◌≡◌, ℕ, ◌*◌, ◌/◌, ◌^◌, ◌<◌, ◌≤◌, Bool, true, false, List, [], ◌∷◌, ◌++◌, map, flat_map, length, refl, ap, subst, sym, ◌∙◌, append_assoc, append-nil, arith}
 use Rattle.std.specs.Prelude.{codes}
 use Rattle.std.specs.Str.{bytes_eq}
 use Rattle.std.specs.List.{AllByRecursion, slice_split}
@@ -10,15 +10,15 @@ use Rattle.std.proofs.lemmas.List.Elements.{All-from_recursion}
 use Rattle.hk_base.specs.TailoringParts.{TailoringParts}
 use Rattle.hk_base.specs.Fields.{octets_of}
 use Rattle.hk_base.specs.Fit.{IsFit}
-use Rattle.body_fields.specs.Spelling.{AllFit, counted_octets}
+use Rattle.body_fields.specs.Spelling.{counted_octets}
 use Rattle.hk_base.specs.declared.types.SuperList.{SuperList}
 use Rattle.st03_grammar.specs.declared.bodies.Pair.{Pair}
 use Rattle.st03_grammar.specs.Spelling as st03
 use Rattle.st03_grammar.specs.Spelling.{ArrayFits, ListsFit, PairFits}
 use Rattle.message_words.specs.Words.{words_if_any, array_words, lists_words, pair_words}
 use Rattle.message_words.specs.Numbers.{number_in}
-use Rattle.message_words.specs.BodyOctets.{field, count_octets, number_octets, list_octets, is_array, array_octets, behind_name, section_octets, lists_octets, alternating_octets, pair_octets}
-use Rattle.message_words.proofs.NumberLemmas.{AreDigits, decimal-digits, number_in-decimal}
+use Rattle.message_words.specs.BodyOctets.{field, count_octets, list_octets, is_array, array_octets, behind_name, section_octets, lists_octets, alternating_octets, pair_octets}
+use Rattle.message_words.proofs.NumberLemmas.{AreDigits, decimal-digits}
 use Rattle.message_words.proofs.SpelledOctets.{small, all_small, field-is, field-decimal, list-spelled}
 
 -- widths of fields that hold numbers of 32 bits

@@ -1,20 +1,14 @@
 -- The octets that the words of a body stand for are the spelling of the body.
-use Rattle.std.proofs.Common.{◌≡◌, ℕ, ◌+◌, ◌*◌, ◌/◌, ◌^◌, ◌<◌, ◌≤◌, Bool, true, false, ℤ, List, [], ◌∷◌, ◌++◌, map, flat_map, length, Option, Some, None, refl, ap, sym, ◌∙◌, append_assoc, arith, rules}
-use Rattle.std.specs.Prelude.{codes, nat_lt, if◌then◌else◌, nat_abs, IsSome, IsTrue}
-use Rattle.std.specs.Option.{option_map_or}
-use Rattle.std.specs.Str.{bytes_eq}
-use Rattle.std.specs.List.{AllByRecursion, slice_split}
-use Rattle.std.specs.Fmt.{decimal, signed_decimal}
+use Rattle.std.proofs.Common.{◌≡◌, ℕ, ◌^◌, ◌<◌, ◌≤◌, Bool, true, List, [], ◌∷◌, ◌++◌, map, flat_map, length, refl, ap, ◌∙◌, arith}
+use Rattle.std.specs.Prelude.{nat_lt, if◌then◌else◌}
+use Rattle.std.specs.List.{AllByRecursion}
+use Rattle.std.specs.Fmt.{decimal}
 use Rattle.std.proofs.Math.Nat.{pow-le-pow_right}
 use Rattle.hk_base.specs.TailoringParts.{TailoringParts}
-use Rattle.hk_base.specs.Fields.{octets_of, signed_octets_of}
-use Rattle.hk_base.specs.Parameters.{parameter, fits}
-use Rattle.body_fields.specs.Spelling.{AllFit, IsCount, counted_octets}
-use Rattle.hk_base.specs.declared.types.SuperList.{SuperList}
-use Rattle.st03_grammar.specs.Spelling as st03
-use Rattle.message_words.specs.Words.{words_if_any, array_words, lists_words}
+use Rattle.hk_base.specs.Fields.{octets_of}
+use Rattle.body_fields.specs.Spelling.{AllFit, counted_octets}
 use Rattle.message_words.specs.Numbers.{number_in}
-use Rattle.message_words.specs.BodyOctets.{field, count_octets, number_octets, list_octets, is_array, array_octets, behind_name, section_octets, lists_octets}
+use Rattle.message_words.specs.BodyOctets.{field, count_octets, number_octets, list_octets}
 use Rattle.message_words.proofs.NumberLemmas.{number_in-decimal}
 
 -- a number that a field of four octets at most holds has 32 bits

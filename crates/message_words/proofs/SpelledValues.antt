@@ -1,5 +1,5 @@
 -- The octets that the words of new values stand for are the spelling of the settings.
-use Rattle.std.proofs.Common.{◌≡◌, ℕ, suc, ◌+◌, ◌*◌, ◌/◌, ◌^◌, ◌<◌, ◌≤◌, Bool, true, false, ℤ, pos, negsuc, List, [], ◌∷◌, ◌++◌, flat_map, length, Option, Some, None, refl, ap, subst, sym, ◌∙◌, append_assoc, arith}
+use Rattle.std.proofs.Common.{◌≡◌, ℕ, ◌*◌, ◌/◌, ◌^◌, ◌<◌, ◌≤◌, Bool, true, false, ℤ, pos, negsuc, List, [], ◌∷◌, ◌++◌, flat_map, length, Option, Some, None, refl, ap, sym, ◌∙◌, append_assoc, arith}
 use Rattle.std.specs.Prelude.{nat_abs, IsSome, IfSome, IsTrue, if◌then◌else◌}
 use Rattle.std.specs.Option.{option_map_or}
 use Rattle.std.specs.List.{AllByRecursion}
@@ -21,7 +21,7 @@ use Rattle.st20_grammar.specs.Spelling as st20
 use Rattle.st20_grammar.specs.Spelling.{IsSetting}
 use Rattle.message_words.specs.Words.{setting_words}
 use Rattle.message_words.specs.Numbers.{number_in, value_in}
-use Rattle.message_words.specs.BodyOctets.{field, count_octets, value_octets, setting_octets_from, setting_octets}
+use Rattle.message_words.specs.BodyOctets.{count_octets, value_octets, setting_octets_from, setting_octets}
 use Rattle.message_words.proofs.NumberLemmas.{number_in-decimal, value_in-decimal}
 use Rattle.message_words.proofs.SpelledOctets.{small, field-is, field-decimal}
 use Rattle.message_words.proofs.SpelledLists.{AreNarrow}

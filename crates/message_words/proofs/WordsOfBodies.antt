@@ -29,7 +29,8 @@ use Rattle.st20_grammar.specs.declared.bodies.Request20.{Request20}
 use Rattle.st20_grammar.specs.declared.bodies.Request20.TheVariants as values
 use Rattle.st20_grammar.proofs.SpellingLemmas.{set_fits}
 use Rattle.message_words.specs.Words.{hex, hex_digit, kind_word, each_word, flag_word, deletion_words, words_if_any, array_words, lists_words, pair_words, setting_words, housekeeping_words, statistics_words, value_words}
-use Rattle.message_words.proofs.LineLemmas.{IsWord, AreWords, is_printed, decimal-word, decimal-words, both_true}
+use Rattle.message_words.specs.Lines.{IsWord, AreWords, is_printed}
+use Rattle.message_words.proofs.LineLemmas.{decimal-word, decimal-words, both_true}
 use Rattle.message_words.proofs.SpelledOctets.{small, all_small}
 use Rattle.message_words.proofs.SpelledLists.{AreNarrow}
 use Rattle.message_words.proofs.SpelledValues.{value-small}

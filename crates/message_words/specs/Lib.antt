@@ -1,5 +1,6 @@
 pub mod Words
 pub mod Tails
+pub mod Lines
 pub mod Outcomes
 pub mod Numbers
 pub mod Commands

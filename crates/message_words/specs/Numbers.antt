@@ -15,13 +15,13 @@ abbrev pub number_in : List ℕ → ℕ
 number_in word = number_from (2 ^ 32 - 1) 0 word
 
 -- a number of 64 bits
-abbrev pub magnitude_in : List ℕ → ℕ
-magnitude_in word = number_from (2 ^ 64 - 1) 0 word
+abbrev pub wide_number_in : List ℕ → ℕ
+wide_number_in word = number_from (2 ^ 64 - 1) 0 word
 
--- a value, negative behind a minus
+-- a value of 128 bits, negative behind a minus
 abbrev pub value_in : List ℕ → ℤ
 value_in [] = pos 0
-value_in (octet ∷ octets) = if octet == 45 then neg_ℤ (pos (magnitude_in octets)) else pos (magnitude_in (octet ∷ octets))
+value_in (octet ∷ octets) = if octet == 45 then neg_ℤ (pos (number_from (2 ^ 127) 0 octets)) else pos (number_from (2 ^ 127 - 1) 0 (octet ∷ octets))
 
 -- a digit to the base 16
 abbrev pub hex_value : List ℕ → ℕ

@@ -1,5 +1,5 @@
 -- The words of requests and of reports. Words are divided by one blank.
-use Rattle.std.specs.Prelude.{ℕ, ◌+◌, ◌/◌, ◌%◌, ◌^◌, nat_lt, ℤ, List, [], ◌∷◌, ◌++◌, length, map, flat_map, Bool, true, false, codes, if◌then◌else◌}
+use Rattle.std.specs.Prelude.{ℕ, ◌+◌, nat_lt, List, [], ◌∷◌, ◌++◌, length, map, flat_map, Bool, true, false, codes, if◌then◌else◌}
 use Rattle.std.specs.List.{join_with_byte}
 use Rattle.std.specs.Fmt.{decimal, signed_decimal}
 use Rattle.hk_base.specs.Fields.{digits}
@@ -41,10 +41,6 @@ hex_digit n = if nat_lt n 10 then 48 + n else 87 + n
 -- a number as so many digits to the base 16
 abbrev pub hex : ℕ → ℕ → List ℕ
 hex places n = map hex_digit (digits 16 places n)
-
--- octets as two digits each
-abbrev pub hex_octets : List ℕ → List ℕ
-hex_octets octets = flat_map (hex 2) octets
 
 -- words as a text
 abbrev pub text_of_words : List (List ℕ) → List ℕ

@@ -3,15 +3,15 @@
 //! Each function goes by the places of the words alone: the decoder of the body finds what isn't of the grammar, and the
 //! comparison with the line what isn't its words. A number that its field has no room for puts no octets.
 ghost use Rattle.std.specs.Prelude.{◌≡◌, ◌≤◌, ◌^◌, ◌++◌, ◌∷◌, [], List, ℕ, length, map, flat_map, IfOk, OnOk};
-ghost use Rattle.std.specs.List.{slice_split};
 ghost use Rattle.message_words.specs.BodyOctets as spelling;
 ghost use Rattle.message_words.specs.BodyOctets.{field, number_octets, list_octets, array_octets, section_octets, lists_octets, creation_octets, appending_octets, alternating_octets, pair_octets, setting_octets_from, setting_octets, deleted, structure_octets, statistics_octets, request20_octets};
 
 use crate::commands::{StatisticsCommand, StructureCommand, ValueCommand};
+use crate::lines::sections_in;
 use crate::numbers::{number_in, value_in};
 use body_fields::write_value_of;
 use hk_base::{Memory, Tailoring, Value, fits, put_uint};
-use std::alloc::{AllocError, Global};
+use std::alloc::Global;
 
 /// Appends the body of a request on structures.
 pub fn put_structure_request(
@@ -174,18 +174,8 @@ fn put_lists(
 ) -> Result<(), Memory>
     ensures { OnOk result (out.new.items ≡ out.old.items ++ lists_octets tailoring.now (map (λ word. word.now) words.now)) }
 {
-    let sections = sections_in(alloc, words)?;
+    let sections = sections_in(alloc, words, "array")?;
     put_sections(tailoring, &sections, out)
-}
-
-/// The words up to the first array, and those of each array.
-fn sections_in<'a, 't>(
-    alloc: Global,
-    words: &'a [&'t str],
-) -> Result<Vec<&'a [&'t str]>, AllocError>
-    ensures { IfOk result (λ parts. map (λ part. map (λ word. word.now) part.now) parts.items ≡ slice_split spelling.is_array (map (λ word. word.now) words.now)) }
-{
-    words.split(|word| *word == "array").collect(alloc)
 }
 
 /// Appends simple parameters, and arrays.

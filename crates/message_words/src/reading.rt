@@ -1,21 +1,20 @@
 //! Requests, read from their words.
-ghost use Rattle.std.specs.Prelude.{◌≡◌, ◌==◌, map, IfOk, if◌then◌else◌};
-ghost use Rattle.std.specs.List.{slice_split};
-ghost use Rattle.std.specs.Option.{option_copied};
+ghost use Rattle.std.specs.Prelude.{◌≡◌, map, IfOk};
 ghost use Rattle.message_words.specs.Outcomes.{Gives};
 ghost use Rattle.message_words.specs.Words.{request_text};
 ghost use Rattle.message_words.specs.Grammar.{IsOfGround};
-ghost use Rattle.message_words.specs.Reading.{is_ascii, request_named, with_words, request_in_words};
+ghost use Rattle.message_words.specs.Reading.{request_named, with_words, request_in_words};
 
 use crate::bodies::body_in;
 use crate::fault::WordsFault;
 use crate::laws::words_are_read_back;
+use crate::lines::{ascii_text, words_in};
 use crate::numbers::{hex_value, number_in};
 use crate::requests::request_words;
 use hk_base::Tailoring;
 use pus_messages::Request;
 use pus_packet::TcHeader;
-use std::alloc::{AllocError, Global};
+use std::alloc::Global;
 
 /// The request of the grammar whose words the line is, with the process and the source of the tailoring. The line has no
 /// line end. Numbers are decimal without leading zeros, and words are divided by one blank.
@@ -39,32 +38,6 @@ fn request_in_line(alloc: Global, tailoring: &Tailoring, line: &[u8]) -> Result<
     let words = words_in(alloc, text)?;
     let request = request_named(alloc, tailoring, &words)?;
     if_spelled(alloc, request, line)
-}
-
-/// The line as a text, if it is ASCII.
-fn ascii_text(line: &[u8]) -> Option<&str>
-    ensures { option_copied result ≡ (if is_ascii line.now then Some line.now else None) }
-{
-    if !is_ascii(line) {
-        return None;
-    }
-    match str::from_utf8(line) {
-        Ok(text) => Some(text),
-        Err(_) => None,
-    }
-}
-
-fn is_ascii(line: &[u8]) -> bool
-    ensures { result ≡ is_ascii line.now }
-{
-    line.iter().all(|octet| *octet < 128)
-}
-
-/// The words of a line, which one blank divides.
-fn words_in(alloc: Global, line: &str) -> Result<Vec<&str>, AllocError>
-    ensures { IfOk result (λ words. map (λ word. word.now) words.items ≡ slice_split (λ octet. octet == 32) line.now) }
-{
-    line.split(' ').collect(alloc)
 }
 
 /// The request that words name. Its own words may be others.

@@ -1,6 +1,5 @@
-use Rattle.std.proofs.Common.{◌≡◌, ◌∷◌, [], ◌++◌, flat_map, drop}
+use Rattle.std.proofs.Common.{◌≡◌, ◌++◌, flat_map, drop}
 use Rattle.std.specs.String.{string_bytes}
-use Rattle.std.specs.Fmt.{decimal}
 use Rattle.message_words.specs.Words.{array_words}
 use Rattle.message_words.specs.Tails.{tail}
 use Rattle.message_words.proofs.lists.push_arrays.Given as goal

@@ -1,4 +1,3 @@
-use Rattle.std.proofs.Common.{arith}
 use Rattle.message_words.proofs.TailLemmas.{hex_turn}
 use Rattle.message_words.proofs.words.push_hex.Goals as goal
 

@@ -1,7 +1,7 @@
 use Rattle.std.proofs.Common.{◌≡◌, true, rules}
 use Rattle.message_words.specs.Reading.{is_ascii}
 use Rattle.message_words.proofs.LineLemmas.{ascii-utf8}
-use Rattle.message_words.proofs.reading.ascii_text.Goals as goal
+use Rattle.message_words.proofs.lines.ascii_text.Goals as goal
 
 pub returns-in-Err : goal.returns-in-Err
 returns-in-Err c =

@@ -1,0 +1,5 @@
+pub mod ActsAgain
+pub mod PacketsAgain
+pub mod RangeLemmas
+pub mod MomentsAgain
+mod TextRows

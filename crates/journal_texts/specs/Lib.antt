@@ -1,0 +1,4 @@
+pub mod JournalTexts
+pub mod Moments
+pub mod Outcomes
+pub mod Reading

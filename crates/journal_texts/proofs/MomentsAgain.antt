@@ -1,5 +1,5 @@
 -- A moment is read from its text, and from no other.
-use Rattle.std.proofs.Common.{◌≡◌, ℕ, Bool, true, false, List, [], ◌∷◌, ◌++◌, Option, Some, None, Result, Ok, Err, refl, ap, subst, sym, ◌∙◌}
+use Rattle.std.proofs.Common.{◌≡◌, ℕ, Bool, true, false, List, ◌∷◌, ◌++◌, Option, Some, None, Result, Ok, Err, refl, ap, subst, sym, ◌∙◌}
 use Rattle.std.specs.Prelude.{◌==◌, IfOk, if◌then◌else◌}
 use Rattle.std.specs.List.{slice_split}
 use Rattle.std.specs.Str.{bytes_eq}
@@ -8,14 +8,13 @@ use Rattle.std.proofs.lemmas.Option.{none-some, same_Some}
 use Rattle.std.proofs.lemmas.Slice.Eq.{bytes_eq-Decides}
 use Rattle.hk_base.proofs.Membership.{AllByRecursion-append}
 use Rattle.message_words.specs.Lines.{IsWord, AreWords}
-use Rattle.message_words.specs.Numbers.{wide_number_in}
 use Rattle.message_words.specs.Reading.{is_ascii}
 use Rattle.message_words.specs.Words.{text_of_words}
 use Rattle.hk_world.specs.declared.moment.Moment.{Moment}
 use Rattle.journal_texts.specs.JournalTexts.{act_words, packet_words, moment_words, journal_text}
 use Rattle.journal_texts.specs.Moments.{IsMoment}
 use Rattle.journal_texts.specs.Outcomes.{Gives}
-use Rattle.journal_texts.specs.Reading.{act_in, packet_in, is_packet, moment_with, moment_in_sections, moment_in_words, with_text, moment_in_text}
+use Rattle.journal_texts.specs.Reading.{packet_in, is_packet, moment_with, moment_in_sections, moment_in_words, with_text, moment_in_text}
 use Rattle.journal_texts.specs.declared.fault.JournalFault.{JournalFault}
 use Rattle.journal_texts.specs.declared.fault.JournalFault.TheVariants.{BadLine}
 use Rattle.journal_texts.proofs.ActsAgain.{AreReadBack, act-again, act-words, act-unmarked}

@@ -1,5 +1,5 @@
 -- Moments whose numbers are in the ranges of their types.
-use Rattle.std.specs.Prelude.{ℕ, ◌<◌, ◌^◌, ⊤}
+use Rattle.std.specs.Prelude.{◌<◌, ◌^◌, ⊤}
 use Rattle.std.specs.List.{AllByRecursion}
 use Rattle.hk_base.specs.Fields.{FitsSignedOctets}
 use Rattle.body_fields.specs.Spelling.{AreOctets}

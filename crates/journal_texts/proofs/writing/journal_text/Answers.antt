@@ -1,4 +1,4 @@
-use Rattle.std.proofs.Common.{◌∙◌, ◌++◌, [], ap, Vec, Global, ℕ, List}
+use Rattle.std.proofs.Common.{◌∙◌, ◌++◌, ap, Vec, Global, ℕ}
 use Rattle.std.specs.Fmt.{decimal}
 use Rattle.std.specs.String.{string_bytes}
 use Rattle.message_words.specs.Tails.{tail}

@@ -19,11 +19,10 @@ pub invariant_of-self-in_err-packet : goal.invariant_of-self-in_err-packet
 invariant_of-self-in_err-packet c = (c.make_room_for.ensures.same c.self.inside.kept c.self.invariant.0, c.self.invariant.1)
 
 pub invariant_of-self-in_err-keep : goal.invariant_of-self-in_err-keep
-invariant_of-self-in_err-keep c =
-    (
-      subst (λ (ks : List Kept). Says c.make_room_for.new.self ks) (sym c.in_err-keep.ensures.same) (c.make_room_for.ensures.same c.self.inside.kept c.self.invariant.0),
-      subst (λ (ks : List Kept). IsGrounded (with_kept_packets (the_view c.self.inside) ks)) (sym c.in_err-keep.ensures.same) c.self.invariant.1,
-    )
+invariant_of-self-in_err-keep c = (
+  subst (λ (ks : List Kept). Says c.make_room_for.new.self ks) (sym c.in_err-keep.ensures.same) (c.make_room_for.ensures.same c.self.inside.kept c.self.invariant.0),
+  subst (λ (ks : List Kept). IsGrounded (with_kept_packets (the_view c.self.inside) ks)) (sym c.in_err-keep.ensures.same) c.self.invariant.1,
+)
 
 pub unreachable-requires : goal.unreachable-requires
 unreachable-requires c =
@@ -58,9 +57,8 @@ invariant_of-self-2 c =
     let is = same_Some _ _ (c.in-Some.ensures ∙ found) in
     let says = c.note_kept.ensures c.self.inside.kept (c.make_room_for.ensures.same c.self.inside.kept c.self.invariant.0) in
     let report = subst (λ (g : Ground). IsReport g.tailoring c.args.report) (sym c.self.view_is) c.requires.grammar in
-    let grammar = subst (λ (x : Kept). IsReport c.self.inside.tailoring x.report) (sym c.new.ensures) report in
-    (
+    let grammar = subst (λ (x : Kept). IsReport c.self.inside.tailoring x.report) (sym c.new.ensures) report in (
       subst (λ (ks : List Kept). Says c.note_kept.new.self ks) (sym (c.in_ok-keep.ensures.kept ∙ ap (λ (x : Kept). insert_kept x c.self.inside.kept) (sym is))) says,
       subst (λ (ks : List Kept). IsGrounded (with_kept_packets (the_view c.self.inside) ks)) (sym c.in_ok-keep.ensures.kept)
-      (grounded-kept (the_view c.self.inside) c.new.result c.self.invariant.1 grammar),
+          (grounded-kept (the_view c.self.inside) c.new.result c.self.invariant.1 grammar),
     )

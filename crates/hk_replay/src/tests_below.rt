@@ -1,10 +1,13 @@
 //! Calls of the crates below that want memory, each once.
 use hk_base::{
-    Boot, Definition, Failed, Form, Items, Memory, Param, Sensor, Structure, SuperList,
+    Boot, Definition, Failed, Form, Items, Key, Kind, Memory, Param, Sensor, Structure, SuperList,
     TableSensor, Tailoring, builtin, put_int, put_uint,
 };
 use hk_world::{Act, Journal, Moment};
-use std::alloc::Global;
+use report_structures::{ApplyFault, Refusal, apply, changes_of_requests};
+use st03_grammar::decode_request;
+use std::alloc::{AllocError, Global};
+use std::fmt::Write;
 use std::process::Abort;
 use std::test::Fail;
 
@@ -137,5 +140,56 @@ fn moments_are_kept_in_order(rt: HostRuntime) -> Result<(), Fail> {
         let moment = journal.at(number).ok_or("no moment")?;
         assert_eq!(rt; moment.tag, u64::from(number) + 1);
     }
+    Ok(())
+}
+
+/// A tailoring file of 256 parameters, with a structure of all but the last.
+fn full_structure_file(alloc: Global) -> Result<String, AllocError> {
+    let mut text = String::from_str(alloc, "version = 1\napid = 100\nground = 1\nslot = 4096\n")?;
+    for id in 0..256u32 {
+        write!(
+            text,
+            "[[parameter]]\nid = {id}\nkind = \"unsigned\"\noctets = 1\n"
+        )?;
+    }
+    write!(
+        text,
+        "[[structure]]\nkind = \"housekeeping\"\nid = 1\ninterval = 1\nsimple = [0"
+    )?;
+    for id in 1..255u32 {
+        write!(text, ", {id}")?;
+    }
+    write!(text, "]\n")?;
+    Ok(text)
+}
+
+/// What appending the last parameter makes of the structure.
+fn appended(alloc: Global, tailoring: &Tailoring) -> Result<Option<Structure>, ApplyFault> {
+    let key = Key {
+        kind: Kind::Housekeeping,
+        id: 1,
+    };
+    let Ok(request) = decode_request(alloc, tailoring, 29, &[1, 1, 0, 255, 0]) else {
+        return Err(ApplyFault::Memory);
+    };
+    changes_of_requests();
+    match request.at(1) {
+        Some((_, change)) => apply(alloc, tailoring, change, tailoring.boot(key)),
+        None => Err(ApplyFault::Memory),
+    }
+}
+
+#[test]
+fn a_structure_has_at_most_255_simple_parameters(rt: HostRuntime) -> Result<(), Fail> {
+    let alloc = rt.alloc();
+    let text = full_structure_file(alloc)?;
+    let Ok(tailoring) = hk_tailoring::read(alloc, text.as_bytes()) else {
+        return Err("no tailoring".into());
+    };
+    let refused = matches!(
+        appended(alloc, &tailoring),
+        Err(ApplyFault::Refused(Refusal::TooMany(256)))
+    );
+    assert!(rt; refused);
     Ok(())
 }

@@ -7,7 +7,7 @@ use Rattle.hk_base.specs.declared.outside.Failed.{Failed}
 use Rattle.session_record.specs.Records.{record_fault}
 use Rattle.session_record.specs.declared.entry.RecordFault.{RecordFault}
 use Rattle.session_record.specs.declared.entry.RecordFault.TheVariants.{BadMagic, BadKind, Cut, TooLong, TooManyEntries, ReadFault, Memory}
-use Rattle.record_commands.specs.Written.{IsWritten}
+use Rattle.session_record.specs.Written.{IsWritten}
 use Rattle.record_commands.specs.Showing.{show_text, Shows}
 use Rattle.record_commands.specs.declared.showing.ShowFault.{ShowFault}
 use Rattle.record_commands.specs.declared.showing.ShowFault.TheVariants as showing

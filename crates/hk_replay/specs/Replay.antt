@@ -2,7 +2,7 @@
 use Rattle.std.specs.Prelude.{◌≡◌, ⊤, ℕ, List, Option, Some, Result, Ok, Err, IfSome, IfErr}
 use Rattle.session_record.specs.declared.header.Header.{Header}
 use Rattle.hk_replay.specs.Transcripts.{Lines, Outcome, written, stopped, listed, ended}
-use Rattle.record_commands.specs.Written.{IsWritten, IsPrefixWritten}
+use Rattle.session_record.specs.Written.{IsWritten, IsPrefixWritten}
 use Rattle.hk_replay.specs.Words.{Command, show}
 use Rattle.hk_replay.specs.declared.status.ReplayStatus.{ReplayStatus}
 use Rattle.hk_replay.specs.declared.status.ReplayStatus.TheVariants.{Done, Usage, Record, ReadFault, WriteFault, NoMemory}

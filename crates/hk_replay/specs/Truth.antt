@@ -14,7 +14,7 @@ use Rattle.session_record.specs.Records.{header_of, read_record}
 use Rattle.session_record.specs.declared.entry.Entry.{Entry}
 use Rattle.session_record.specs.declared.entry.Entry.TheVariants.{Sent, Got, Line}
 use Rattle.hk_replay.specs.Blocks.{Block, block_lines}
-use Rattle.record_commands.specs.Written.{IsWritten, IsPrefixWritten}
+use Rattle.session_record.specs.Written.{IsWritten, IsPrefixWritten}
 use Rattle.hk_replay.specs.declared.status.ReplayStatus.{ReplayStatus}
 use Rattle.hk_replay.specs.declared.status.ReplayStatus.TheVariants.{Done, Usage, Tailoring, Record, ReadFault, WriteFault, NoMemory, Text, NotBuilt}
 

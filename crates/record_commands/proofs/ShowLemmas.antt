@@ -13,7 +13,7 @@ use Rattle.session_record.specs.declared.entry.WriteFault.{WriteFault}
 use Rattle.session_record.specs.declared.entry.RecordFault.{RecordFault}
 use Rattle.session_record.specs.declared.entry.RecordFault.TheVariants.{BadMagic, BadKind, Cut, TooLong, TooManyEntries, ReadFault, Memory}
 use Rattle.record_commands.specs.Lines.{entry_line}
-use Rattle.record_commands.specs.Written.{IsWritten, IsPrefixWritten}
+use Rattle.session_record.specs.Written.{IsWritten, IsPrefixWritten}
 use Rattle.record_commands.specs.Showing.{lines_of, lines_to_come, show_text, Shows, IsFirstLine, TakesLine}
 use Rattle.record_commands.specs.declared.showing.ShowFault.{ShowFault}
 use Rattle.record_commands.specs.declared.showing.ShowFault.TheVariants as show

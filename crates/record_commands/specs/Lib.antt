@@ -1,5 +1,4 @@
 pub mod Trimming
-pub mod Written
 pub mod Lines
 pub mod Showing
 pub mod Input

@@ -8,7 +8,7 @@ use Rattle.session_record.specs.declared.entry.Entry.{Entry}
 use Rattle.session_record.specs.declared.entry.RecordFault.{RecordFault}
 use Rattle.session_record.specs.declared.entry.RecordFault.TheVariants.{ReadFault, Memory}
 use Rattle.record_commands.specs.Lines.{entry_line}
-use Rattle.record_commands.specs.Written.{IsWritten, IsPrefixWritten}
+use Rattle.session_record.specs.Written.{IsWritten, IsPrefixWritten}
 use Rattle.record_commands.specs.declared.showing.ShowFault.{ShowFault}
 use Rattle.record_commands.specs.declared.showing.ShowFault.TheVariants.{Record, WriteFault}
 

@@ -4,3 +4,4 @@ pub mod Reading
 pub mod Steps
 pub mod Finding
 pub mod Writing
+pub mod Written

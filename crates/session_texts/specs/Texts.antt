@@ -8,8 +8,8 @@ use Rattle.ground_history.specs.declared.answer.GotKind.{GotKind}
 use Rattle.ground_history.specs.declared.answer.GotKind.TheVariants as became
 use Rattle.session_record.specs.declared.header.Header.{Header}
 use Rattle.session_record.specs.declared.entry.Entry.{Entry}
-use Rattle.decommutator.specs.Sessions.{known_after, kinds_after}
-use Rattle.decommutator.specs.Blocks.{line_end, block}
+use Rattle.session_texts.specs.Sessions.{known_after, kinds_after}
+use Rattle.session_texts.specs.Blocks.{line_end, block}
 
 -- what became of a packet
 abbrev pub is_repeat : GotKind → Bool

@@ -11,8 +11,8 @@ use Rattle.session_record.specs.declared.header.Header.{Header}
 use Rattle.session_record.specs.declared.entry.Entry.{Entry}
 use Rattle.session_record.specs.declared.entry.Entry.TheVariants.{Sent, Got, Line}
 use Rattle.session_record.specs.declared.entry.RecordFault.{RecordFault}
-use Rattle.decommutator.specs.declared.problem.RecordProblem.{RecordProblem}
-use Rattle.decommutator.specs.declared.problem.RecordProblem.TheVariants as problem
+use Rattle.session_texts.specs.declared.problem.RecordProblem.{RecordProblem}
+use Rattle.session_texts.specs.declared.problem.RecordProblem.TheVariants as problem
 
 -- what the ground takes of an entry: lines of the journal are skipped
 abbrev pub seen_entry : Entry → Option worlds.Entry

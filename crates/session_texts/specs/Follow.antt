@@ -12,9 +12,9 @@ use Rattle.definition_intervals.specs.declared.answer.Verdict.{Verdict}
 use Rattle.definition_intervals.specs.declared.answer.Verdict.TheVariants.{Decided}
 use Rattle.session_record.specs.declared.header.Header.{Header}
 use Rattle.session_record.specs.declared.entry.Entry.{Entry}
-use Rattle.decommutator.specs.Sessions.{known_after, kinds_after}
-use Rattle.decommutator.specs.Blocks.{block}
-use Rattle.decommutator.specs.Texts.{count_lines}
+use Rattle.session_texts.specs.Sessions.{known_after, kinds_after}
+use Rattle.session_texts.specs.Blocks.{block}
+use Rattle.session_texts.specs.Texts.{count_lines}
 
 -- whether a verdict names a definition
 abbrev pub is_decision : Verdict → Bool

@@ -11,12 +11,11 @@ use Rattle.session_record.specs.declared.entry.Entry.TheVariants.{Sent, Got, Lin
 use Rattle.session_record.specs.declared.entry.RecordFault.{RecordFault}
 use Rattle.session_record.specs.declared.entry.RecordFault.TheVariants.{Cut}
 use Rattle.ground_history.specs.declared.answer.SentFault.TheVariants.{WrongCount}
-use Rattle.decommutator.specs.Sessions.{record_problem}
-use Rattle.decommutator.specs.Texts.{text}
-use Rattle.decommutator.specs.Follow.{followed, follow_text}
-use Rattle.decommutator.specs.Shown.{show_text}
-use Rattle.decommutator.specs.Tallies.{tally}
-use Rattle.decommutator.specs.declared.problem.RecordProblem.TheVariants as problem
+use Rattle.session_texts.specs.Sessions.{record_problem}
+use Rattle.session_texts.specs.Texts.{text}
+use Rattle.session_texts.specs.Follow.{followed, follow_text}
+use Rattle.session_texts.specs.Tallies.{tally}
+use Rattle.session_texts.specs.declared.problem.RecordProblem.TheVariants as problem
 
 -- lines, each ended by a line feed
 abbrev lines : List (List ℕ) → List ℕ
@@ -115,11 +114,6 @@ followed_with_unknown_start = refl
 numbers : tally (protocol builtin) known (Sent change_two ∷ Got report_two ∷ Got completed_two ∷ [])
     ≡ record { sent = 1; received = 2; repeats = 0; decided = 1; undecidable = 0; other = 0; values = 5 }
 numbers = refl
-
-shown : show_text (protocol builtin) (Sent change_two ∷ Got report_one ∷ Line (97 ∷ 9 ∷ []) ∷ [])
-    ≡ lines (codes "sent 0 f interval hk 2 4" ∷ codes "got 16385 3.25 hk 1 octets 2" ∷ codes "journal a?" ∷ [])
-unfolding digits
-shown = refl
 
 -- a request packet with another count than the next, and a record that is cut after it
 abbrev enable_next : List ℕ

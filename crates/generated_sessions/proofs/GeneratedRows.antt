@@ -2,8 +2,8 @@
 use Rattle.std.proofs.Common.{◌≡◌, refl, [], ◌∷◌, true, false}
 use Rattle.pus_messages.specs.Messages.{protocol}
 use Rattle.session_record.specs.Records.{header_of}
-use Rattle.decommutator.specs.Generated.{made_tailoring, made_request, generated}
-use Rattle.decommutator.specs.Tallies.{tally}
+use Rattle.generated_sessions.specs.Generated.{made_tailoring, made_request, generated}
+use Rattle.session_texts.specs.Tallies.{tally}
 
 request : made_request 0 ≡ 24 ∷ 100 ∷ 192 ∷ 0 ∷ 0 ∷ 8 ∷ 47 ∷ 3 ∷ 31 ∷ 0 ∷ 1 ∷ 1 ∷ 1 ∷ 0 ∷ 2 ∷ []
 request = refl

@@ -13,11 +13,11 @@ use Rattle.definition_intervals.specs.declared.answer.Verdict.{Verdict}
 use Rattle.definition_intervals.specs.declared.answer.Verdict.TheVariants.{Decided, Undecidable}
 use Rattle.session_record.specs.declared.header.Header.{Header}
 use Rattle.session_record.specs.declared.entry.Entry.{Entry}
-use Rattle.decommutator.specs.Sessions.{known_after, kinds_after}
-use Rattle.decommutator.specs.Blocks.{line_end, report_places}
-use Rattle.decommutator.specs.Texts.{is_repeat}
-use Rattle.decommutator.specs.Follow.{is_decision}
-use Rattle.decommutator.specs.declared.problem.Tally.{Tally}
+use Rattle.session_texts.specs.Sessions.{known_after, kinds_after}
+use Rattle.session_texts.specs.Blocks.{line_end, report_places}
+use Rattle.session_texts.specs.Texts.{is_repeat}
+use Rattle.session_texts.specs.Follow.{is_decision}
+use Rattle.session_texts.specs.declared.problem.Tally.{Tally}
 
 -- the verdict on a parameter report, with its tag
 abbrev pub body_verdict : TailoringParts → History → ℕ → ReportBody → Option (ℕ × Verdict)

@@ -418,8 +418,8 @@ impl History {
     {
         let tag = report.header.tag;
         self.evidence.make_room_for(number, &report.body)?;
-        let packet = Items::from_slice(self.alloc, bytes)?;
-        self.kept.keep(KeptPacket::new(packet, report, number))?;
+        let packet = KeptPacket::new(self.alloc, bytes, report, number)?;
+        self.kept.keep(packet)?;
         let Some(kept) = self.kept.with_tag(tag) else {
             unreachable!();
         };

@@ -5,3 +5,4 @@ pub mod KeptFacts
 pub mod CountFacts
 pub mod NamingLemmas
 pub mod TruthLemmas
+pub mod ProblemLemmas

@@ -1,5 +1,5 @@
 //! What the definitions promise.
-ghost use Rattle.std.specs.Prelude.{◌≡◌, ℕ, List, [], ◌∷◌, ◌++◌, map};
+ghost use Rattle.std.specs.Prelude.{◌≡◌, ℕ, List, [], ◌∷◌, ◌++◌, map, option_map, None, Ok};
 ghost use Rattle.std.specs.Option.{option_or};
 ghost use Rattle.hk_base.specs.Builtin.{builtin};
 ghost use Rattle.hk_base.specs.TailoringParts.{TailoringParts};
@@ -7,11 +7,13 @@ ghost use Rattle.pus_messages.specs.Messages.{protocol};
 ghost use Rattle.pus_messages.specs.Protocol.{Protocol};
 ghost use Rattle.hk_world.specs.Worlds.{World, IsWorld};
 ghost use Rattle.ground_history.specs.Bounds.{history_in};
+ghost use Rattle.session_record.specs.Records.{Entries, read_record};
 ghost use Rattle.session_record.specs.declared.entry.Entry.{Entry};
 ghost use Rattle.session_record.specs.declared.header.Header.{Header};
-ghost use Rattle.session_texts.specs.Sessions.{known_after, known_with, kinds_after, kinds_with, entries_problem};
+ghost use Rattle.session_texts.specs.Sessions.{known_after, known_with, kinds_after, kinds_with, entries_problem, record_problem};
 ghost use Rattle.session_texts.specs.Texts.{count_lines, blocks, text};
 ghost use Rattle.session_texts.specs.Truth.{IsTrueText, IsSeenIn, kinds_in};
+ghost use Rattle.session_texts.specs.declared.problem.RecordProblem.TheVariants as problem;
 
 /// Of no entries nothing is written.
 pub fn empty_records()
@@ -36,4 +38,13 @@ pub fn texts_are_true()
         → IsSeenIn w h entries → IsTrueText w (text (protocol t) h entries) }
     ensures known { (t : TailoringParts) (w : World) → w.session.protocol ≡ protocol t → IsWorld w
         → IsTrueText w (blocks (protocol t) (history_in w) ++ count_lines (kinds_in w)) }
+{}
+
+/// In every world each entry is taken, so a record of its entries has no problem but a fault of its format.
+pub fn records_of_worlds_have_no_problem()
+    ensures entries { (t : TailoringParts) (w : World) (h : Header) (list : List (ℕ × Entry)) → w.session.protocol ≡ protocol t → IsWorld w
+        → IsSeenIn w h (map (λ e. e.1) list) → entries_problem (protocol t) h [] list ≡ None }
+    ensures octets { (t : TailoringParts) (w : World) (octets : List ℕ) (x : Header × Entries) → w.session.protocol ≡ protocol t → IsWorld w
+        → read_record octets ≡ Ok x → IsSeenIn w x.0 (map (λ e. e.1) x.1.list)
+        → record_problem (protocol t) octets ≡ option_map problem.Format x.1.fault }
 {}

@@ -6,3 +6,5 @@ pub mod CountFacts
 pub mod NamingLemmas
 pub mod TruthLemmas
 pub mod ProblemLemmas
+pub mod LaterFacts
+pub mod FollowLemmas

@@ -1,6 +1,6 @@
 -- The entries of a world are all taken, so a record of them has no problem but a fault of its format.
-use Rattle.std.proofs.Common.{◌≡◌, ℕ, refl, sym, ◌∙◌, ap, subst, List, [], ◌∷◌, ◌++◌, map, append_assoc, Bool, Option, None, Result, Ok, Err}
-use Rattle.std.proofs.lemmas.List.{append-nil, reverse-append}
+use Rattle.std.proofs.Common.{◌≡◌, ℕ, refl, sym, ◌∙◌, ap, subst, List, [], ◌∷◌, ◌++◌, map, append_assoc, Bool, None, Result, Ok, Err}
+use Rattle.std.proofs.lemmas.List.{reverse-append}
 use Rattle.std.proofs.lemmas.List.Elements.{filter_map-append}
 use Rattle.std.specs.Prelude.{filter_map, reverse, option_map, IsOk}
 use Rattle.std.specs.Option.{option_or}
@@ -20,7 +20,6 @@ use Rattle.session_record.specs.declared.entry.Entry.{Entry}
 use Rattle.session_record.specs.declared.entry.Entry.TheVariants.{Sent, Got, Line}
 use Rattle.session_texts.specs.Sessions.{seen_entry, seen, known_after, answer_problem, entry_problem, entries_problem, problem_of, record_problem}
 use Rattle.session_texts.specs.Truth.{IsSeenIn}
-use Rattle.session_texts.specs.declared.problem.RecordProblem.{RecordProblem}
 use Rattle.session_texts.specs.declared.problem.RecordProblem.TheVariants as problem
 use Rattle.session_texts.proofs.EntryLemmas.{seen-more}
 

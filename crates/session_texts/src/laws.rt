@@ -1,5 +1,5 @@
 //! What the definitions promise.
-ghost use Rattle.std.specs.Prelude.{◌≡◌, ℕ, List, [], ◌∷◌, ◌++◌, map, option_map, None, Ok};
+ghost use Rattle.std.specs.Prelude.{◌≡◌, ℕ, List, [], ◌∷◌, ◌++◌, map, reverse, option_map, None, Ok};
 ghost use Rattle.std.specs.Option.{option_or};
 ghost use Rattle.hk_base.specs.Builtin.{builtin};
 ghost use Rattle.hk_base.specs.TailoringParts.{TailoringParts};
@@ -12,7 +12,8 @@ ghost use Rattle.session_record.specs.declared.entry.Entry.{Entry};
 ghost use Rattle.session_record.specs.declared.header.Header.{Header};
 ghost use Rattle.session_texts.specs.Sessions.{known_after, known_with, kinds_after, kinds_with, entries_problem, record_problem};
 ghost use Rattle.session_texts.specs.Texts.{count_lines, blocks, text};
-ghost use Rattle.session_texts.specs.Truth.{IsTrueText, IsSeenIn, kinds_in};
+ghost use Rattle.session_texts.specs.Follow.{followed, follow_text};
+ghost use Rattle.session_texts.specs.Truth.{IsTrueText, IsTrueSoFar, IsTrueFollowing, IsSeenIn, kinds_in};
 ghost use Rattle.session_texts.specs.declared.problem.RecordProblem.TheVariants as problem;
 
 /// Of no entries nothing is written.
@@ -47,4 +48,13 @@ pub fn records_of_worlds_have_no_problem()
     ensures octets { (t : TailoringParts) (w : World) (octets : List ℕ) (x : Header × Entries) → w.session.protocol ≡ protocol t → IsWorld w
         → read_record octets ≡ Ok x → IsSeenIn w x.0 (map (λ e. e.1) x.1.list)
         → record_problem (protocol t) octets ≡ option_map problem.Format x.1.fault }
+{}
+
+/// In every world what is written as its entries come is true: all that was written before any of them, and the whole, in which
+/// each report has one block.
+pub fn followed_lines_are_true()
+    ensures whole { (t : TailoringParts) (w : World) (h : Header) (entries : List Entry) → w.session.protocol ≡ protocol t → IsWorld w
+        → IsSeenIn w h entries → IsTrueFollowing w (follow_text (protocol t) h entries) }
+    ensures so_far { (t : TailoringParts) (w : World) (h : Header) (earlier later : List Entry) → w.session.protocol ≡ protocol t → IsWorld w
+        → IsSeenIn w h (earlier ++ later) → IsTrueSoFar w (followed (protocol t) h (reverse earlier)) }
 {}

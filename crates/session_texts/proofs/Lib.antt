@@ -8,3 +8,5 @@ pub mod TruthLemmas
 pub mod ProblemLemmas
 pub mod LaterFacts
 pub mod FollowLemmas
+pub mod SettledLemmas
+pub mod ExampleText

@@ -1,5 +1,5 @@
 -- When a text is true of what a board did.
-use Rattle.std.specs.Prelude.{◌≡◌, ◌<◌, ⊤, ℕ, ℤ, List, ◌++◌, codes, map, flat_map, slice_get, Option, Some, None, IsFalse}
+use Rattle.std.specs.Prelude.{◌≡◌, ◌<◌, ⊤, ℕ, ℤ, List, [], ◌∷◌, ◌++◌, codes, map, flat_map, slice_get, Option, Some, None, IsFalse}
 use Rattle.std.specs.List.{AllByRecursion}
 use Rattle.std.specs.Fmt.{decimal}
 use Rattle.hk_base.specs.TailoringParts.{TailoringParts}

@@ -1,5 +1,5 @@
 //! What became of received packets that weren't kept.
-ghost use Rattle.std.specs.Prelude.{◌≡◌, ◌<◌, ◌^◌};
+ghost use Rattle.std.specs.Prelude.{◌≡◌, ◌<◌};
 ghost use Rattle.decommutator.specs.Standing.{no_counts, with_kind, total};
 
 use ground_history::GotKind;
@@ -33,7 +33,7 @@ impl Counts {
 
     /// Counts what became of one more packet.
     pub fn note(&mut self, kind: GotKind)
-        requires { total self.old < 2 ^ 32 - 1 }
+        requires { total self.old < 4294967295 }
         ensures { self.new ≡ with_kind self.old kind }
     {
         match kind {

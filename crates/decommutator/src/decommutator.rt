@@ -4,11 +4,9 @@ ghost use Rattle.ground_history.specs.Ground.{IsAnswer, IsGrounded};
 ghost use Rattle.session_record.specs.Records.{held_octets};
 ghost use Rattle.session_record.specs.Writing.{Writes};
 ghost use Rattle.decommutator.specs.Standing.{new_standing, entry_answer, after_entry, after_unfollowed, ground_of, standing_text, standing_tally};
-ghost use Rattle.decommutator.specs.Rows.{report_count, report_rows};
 ghost use Rattle.decommutator.specs.Finishing.{FinishCounts, FinishesWithin};
 
 use crate::counts::Counts;
-use crate::row::ValueRow;
 use ground_history::{History, SentFault};
 use hk_base::{Items, Memory, Sink, Tailoring};
 use session_record::{Entry, WriteFault};
@@ -94,24 +92,6 @@ impl Decommutator {
         ensures { IfOk result (λ tally. tally ≡ standing_tally self.now.standing) }
     {
         let _alloc = self.alloc;
-        Err(Memory)
-    }
-
-    /// The number of parameter reports that were kept.
-    pub fn reports(&self) -> u32
-        ensures { result ≡ report_count self.now.standing }
-    {
-        0
-    }
-
-    /// The values of the parameter report with this number, from 0 in the order of tags, each with its place: none where the
-    /// report isn't decided.
-    pub fn rows(&self, number: u32) -> Result<Items<ValueRow>, Memory>
-        requires { number < report_count self.now.standing }
-        ensures { IfOk result (λ rows. rows ≡ report_rows self.now.standing number) }
-    {
-        let _alloc = self.alloc;
-        let _number = number;
         Err(Memory)
     }
 }

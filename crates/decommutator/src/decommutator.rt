@@ -7,6 +7,7 @@ ghost use Rattle.decommutator.specs.Standing.{new_standing, entry_answer, after_
 ghost use Rattle.decommutator.specs.Finishing.{FinishCounts, FinishesWithin};
 
 use crate::counts::Counts;
+use crate::taking::take;
 use ground_history::{History, SentFault};
 use hk_base::{Items, Memory, Sink, Tailoring};
 use session_record::{Entry, WriteFault};
@@ -57,9 +58,10 @@ impl Decommutator {
         ensures state { self.new.standing ≡ after_entry self.old.standing entry.now result }
         ensures waiting { self.new.waiting ≡ after_unfollowed self.old.waiting result }
     {
-        let _most = self.entries;
-        let _entry = entry;
-        Err(SentFault::Memory)
+        take(&mut self.history, &mut self.counts, entry)?;
+        self.entries += 1;
+        self.waiting = None;
+        Ok(())
     }
 
     /// The number of entries that were taken so far, skipped ones among them.

@@ -6,6 +6,8 @@ mod decommutator;
 mod fault;
 mod laws;
 mod row;
+mod taking;
+mod walking;
 
 pub use decommutator::Decommutator;
 pub use fault::FollowFault;

@@ -1,9 +1,8 @@
 -- What is known stays of the grammar, and in order.
-use Rattle.std.proofs.Common.{arith, ◌≡◌, ℕ, ◌<◌, ◌≤◌, refl, sym, subst, List, [], ◌∷◌, ◌++◌, map, Bool, true, false, cond, Some, None}
+use Rattle.std.proofs.Common.{arith, ◌≡◌, ◌<◌, ◌≤◌, refl, sym, subst, List, [], ◌∷◌, ◌++◌, map, Bool, true, false, cond, Some, None}
 use Rattle.std.proofs.lemmas.Bool.{ltb-true, ltb-false, eqb-false}
 use Rattle.std.specs.Prelude.{nat_lt, find, ◌==◌, if◌then◌else◌}
 use Rattle.std.specs.List.{AllByRecursion}
-use Rattle.hk_base.specs.TailoringParts.{TailoringParts}
 use Rattle.hk_base.proofs.Membership.{AllByRecursion-append}
 use Rattle.pus_messages.specs.Spelling.{IsReport}
 use Rattle.ground_history.specs.Histories.{Sent, Kept, tag_of, greatest, newest_tag, insert_kept}

@@ -12,9 +12,7 @@ use Rattle.ground_history.specs.Histories.{Sent, Kept, History, is_own, is_known
 use Rattle.hk_base.specs.declared.types.Memory.{Memory}
 use Rattle.pus_messages.specs.declared.message.Report.{Report}
 use Rattle.ground_history.specs.declared.answer.GotKind.{GotKind}
-use Rattle.pus_messages.specs.Protocol.{Protocol, Reception, foreign, skipped, unread, readable}
-use Rattle.ground_history.specs.declared.reception.Received.{Received}
-use Rattle.ground_history.specs.declared.reception.Received.TheVariants as received
+use Rattle.pus_messages.specs.Protocol.{Protocol}
 use Rattle.ground_history.specs.declared.answer.SentFault.{SentFault}
 use Rattle.ground_history.specs.declared.answer.SentFault.TheVariants as fault
 
@@ -113,15 +111,3 @@ IsByTag entries = AllByRecursion (λ e. e.0 ≡ tag_of e.1) entries
 -- the packets of entries
 abbrev pub packets_of : List (ℕ × Kept) → List Kept
 packets_of entries = map (λ e. e.1) entries
-
--- a report that was received is of the grammar
-abbrev pub IsGrammarReceived : TailoringParts → Received → Type 0
-IsGrammarReceived t (received.Readable report) = IsReport t report
-IsGrammarReceived t _ = ⊤
-
--- octets that were received, as the code holds what they are
-abbrev pub reception_of : Received → Reception
-reception_of (received.Foreign apid) = foreign apid
-reception_of (received.Skipped service subtype) = skipped service subtype
-reception_of received.Unread = unread
-reception_of (received.Readable report) = readable report

@@ -11,12 +11,12 @@ ghost use Rattle.ground_history.specs.Ground.{IsGrounded, HasNumber, IsAnswer, I
 use crate::answer::{GotKind, Outcome, SentFault};
 use crate::evidence::Evidence;
 use crate::kept::{KeptPacket, KeptPackets};
-use crate::reception::{Received, asked, is_alone, receive, subject_of};
-use crate::requests::{Requests, SentRequest};
+use crate::requests::{Requests, SentRequest, asked};
 use hk_base::{Items, Memory, RequestId, Tailoring};
-use pus_messages::{Report, ReportBody, Request};
+use pus_messages::{Reception, Report, ReportBody, Request, instructions, receive, subject};
 use pus_packet::split_tc;
 use std::alloc::Global;
+use std::collections::btree_map::Values;
 use std::marker::Model;
 
 /// The most requests of a short session, and how many counts there are.
@@ -84,10 +84,10 @@ impl History {
         ensures state { self.new ≡ with_history self.old (got_result (protocol self.old.tailoring) self.old.history bytes.now result) }
     {
         match receive(self.alloc, &self.tailoring, bytes)? {
-            Received::Foreign(apid) => Ok(GotKind::Foreign(apid)),
-            Received::Skipped(service, subtype) => Ok(GotKind::Skipped(service, subtype)),
-            Received::Unread => Ok(GotKind::Unread),
-            Received::Readable(report) => self.got_report(bytes, report),
+            Reception::Foreign(apid) => Ok(GotKind::Foreign(apid)),
+            Reception::Skipped(service, subtype) => Ok(GotKind::Skipped(service, subtype)),
+            Reception::Unread => Ok(GotKind::Unread),
+            Reception::Readable(report) => self.got_report(bytes, report),
         }
     }
 
@@ -192,14 +192,21 @@ impl History {
         &self.tailoring
     }
 
-    /// Whether the start of the session is a long one's.
+    /// Whether the session is a long one.
     pub fn long(&self) -> bool
         ensures { result ≡ self.now.history.long }
     {
         self.long
     }
 
-    /// The kept packet with this number, from 0 in the order of tags. It takes time with the number: see `report_from`.
+    /// The kept packets in the order of their tags, each in time that doesn't depend on how many there are.
+    pub fn packets(&self) -> Values<'_, u64, KeptPacket>
+        ensures { result ≡ self.now.history.kept }
+    {
+        self.kept.all()
+    }
+
+    /// The kept packet with this number, from 0 in the order of tags. It takes time with the number: see `packets`.
     pub fn report(&self, number: u64) -> Option<&Report>
         ensures { option_copied result ≡ option_map (λ k. k.report) (slice_get self.now.history.kept number) }
     {
@@ -221,8 +228,7 @@ impl History {
         }
     }
 
-    /// The first kept packet whose tag isn't below this one: with it the kept packets are gone through in the order of tags,
-    /// each in logarithmic time.
+    /// The first kept packet whose tag isn't below this one, in logarithmic time.
     pub fn report_from(&self, tag: u64) -> Option<&Report>
         ensures { option_copied result ≡ option_map (λ k. k.report) (find (λ k. nat_le tag (tag_of k)) self.now.history.kept) }
     {
@@ -343,7 +349,7 @@ impl History {
     {
         match self.requests.get(k) {
             Some(sent) => match sent.request() {
-                Some(request) => is_alone(request),
+                Some(request) => instructions(request) == 1,
                 None => false,
             },
             None => false,
@@ -394,7 +400,7 @@ impl History {
         let ReportBody::Verify(verification) = &report.body else {
             return Ok(None);
         };
-        let id = subject_of(verification);
+        let id = subject(verification);
         match self.requests.verified(self.long, id, report.header.tag) {
             Some(number) => Ok(Some(number)),
             None => Err(id),

@@ -7,16 +7,16 @@ use hk_base::{Memory, Octets};
 use pus_messages::Report;
 use std::alloc::Global;
 use std::collections::BTreeMap;
+use std::collections::btree_map::Values;
 use std::marker::Model;
 use std::ops::Bound;
 
 /// A packet that was kept.
 #[derive(Debug, Drop)]
-pub(crate) struct KeptPacket {
-    pub packet: Octets,
-    pub report: Report,
-    /// The number of the request that it verifies, if it is a verification report.
-    pub number: Option<u64>,
+pub struct KeptPacket {
+    packet: Octets,
+    report: Report,
+    number: Option<u64>,
 }
 
 impl Model for KeptPacket {
@@ -38,13 +38,14 @@ impl KeptPacket {
         }
     }
 
-    pub(crate) fn tag(&self) -> u64
+    pub fn tag(&self) -> u64
         ensures { result ≡ tag_of self.now }
     {
         self.report.header.tag
     }
 
-    pub(crate) fn number(&self) -> Option<u64>
+    /// The number of the request that it verifies, if it is a verification report.
+    pub fn number(&self) -> Option<u64>
         ensures { result ≡ self.now.number }
     {
         self.number
@@ -56,7 +57,7 @@ impl KeptPacket {
         self.packet.as_slice()
     }
 
-    pub(crate) fn report(&self) -> &Report
+    pub fn report(&self) -> &Report
         ensures { result.now ≡ self.now.report }
     {
         &self.report
@@ -112,6 +113,13 @@ impl KeptPackets {
         ensures { option_copied result ≡ find (λ k. tag_of k == tag) self.now }
     {
         self.packets.get(&tag)
+    }
+
+    /// All of them.
+    pub(crate) fn all(&self) -> Values<'_, u64, KeptPacket>
+        ensures { result ≡ self.now }
+    {
+        self.packets.values()
     }
 
     /// The packet with this number, from 0.

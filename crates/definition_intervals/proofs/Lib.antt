@@ -15,6 +15,8 @@ pub mod NewestLemmas
 pub mod AgreementLemmas
 pub mod GatherLemmas
 pub mod VerdictLemmas
+pub mod BasisLemmas
+pub mod FormedDecisions
 pub mod WorldContainment
 pub mod SoundLemmas
 pub mod NamesLemmas

@@ -24,7 +24,3 @@ report_lines t key tag payload verdict = report_front key tag ++ verdict_lines t
 abbrev pub decision_lines : TailoringParts → ℕ → List ℕ → Definition → List ℕ
 decision_lines t tag payload d =
     codes " decided interval " ++ (decimal d.interval ++ (line_end ++ value_lines (report_places t d tag) (payload_read t d payload)))
-
--- the rest of the block where the verdict is a word with the number of a request
-abbrev pub named_lines : List ℕ → ℕ → List ℕ
-named_lines word number = word ++ (decimal number ++ line_end)

@@ -4,7 +4,7 @@ ghost use Rattle.body_fields.specs.Outcomes.{Appends};
 ghost use Rattle.session_texts.specs.Texts.{count_line};
 ghost use Rattle.block_lines.specs.Counts.{lines_of};
 
-use crate::fields::write_number_line;
+use crate::summary::write_number;
 use hk_base::Memory;
 
 /// The numbers of packets that were received and not kept, by what became of them.
@@ -22,21 +22,21 @@ pub struct Counts {
 pub fn write_counts(out: &mut Vec<u8>, counts: &Counts) -> Result<(), Memory>
     ensures { Appends out.old.items result out.new.items (lines_of counts.now) }
 {
-    write_count(out, b"repeats", counts.repeats)?;
-    write_count(out, b"conflicts", counts.conflicts)?;
-    write_count(out, b"foreign", counts.foreign)?;
-    write_count(out, b"skipped", counts.skipped)?;
-    write_count(out, b"unread", counts.unread)?;
-    write_count(out, b"stray", counts.stray)?;
+    write_count(out, "repeats", counts.repeats)?;
+    write_count(out, "conflicts", counts.conflicts)?;
+    write_count(out, "foreign", counts.foreign)?;
+    write_count(out, "skipped", counts.skipped)?;
+    write_count(out, "unread", counts.unread)?;
+    write_count(out, "stray", counts.stray)?;
     Ok(())
 }
 
 /// Appends the line of a number with its word, unless it is 0.
-fn write_count(out: &mut Vec<u8>, word: &[u8], number: u32) -> Result<(), Memory>
+fn write_count(out: &mut Vec<u8>, word: &str, number: u32) -> Result<(), Memory>
     ensures { Appends out.old.items result out.new.items (count_line word.now number) }
 {
     if number == 0 {
         return Ok(());
     }
-    write_number_line(out, word, u64::from(number))
+    write_number(out, word, u64::from(number))
 }

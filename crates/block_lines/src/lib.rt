@@ -4,8 +4,8 @@
 #![tactic(auto)]
 
 mod counts;
-mod fields;
 mod parameters;
+mod parts;
 mod reports;
 mod summary;
 mod values;

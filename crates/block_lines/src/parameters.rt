@@ -1,9 +1,10 @@
 //! The blocks of reports of statistics and of current values.
-ghost use Rattle.std.specs.Prelude.{◌≡◌, ◌++◌, flat_map};
+ghost use Rattle.std.specs.Prelude.{◌≡◌, ◌++◌, ◌^◌, ◌<◌, flat_map};
 ghost use Rattle.body_fields.specs.Outcomes.{Appends};
 ghost use Rattle.session_texts.specs.Blocks.{stat_line, statistics_lines, current_line, current_lines};
+ghost use Rattle.block_lines.specs.Parts.{statistics_front, current_front};
 
-use crate::fields::{end_line, put_number, put_text, put_value};
+use crate::parts::{Part, put_parts};
 use hk_base::{Memory, Tailoring};
 use st04_grammar::{StatReport, StatRow};
 use st20_grammar::Setting;
@@ -17,15 +18,27 @@ pub fn write_statistics(
 ) -> Result<(), Memory>
     ensures { Appends out.old.items result out.new.items (statistics_lines tailoring.now tag report.now) }
 {
-    put_text(out, b"statistics tag ")?;
-    put_number(out, tag)?;
-    put_text(out, b" from ")?;
-    put_number(out, report.start)?;
-    put_text(out, b" to ")?;
-    put_number(out, report.end)?;
-    end_line(out)?;
+    write_statistics_front(out, tag, report)?;
     write_rows(out, tailoring, report.rows.as_slice())?;
     Ok(())
+}
+
+/// Appends the first line of the block of a statistics report.
+fn write_statistics_front(out: &mut Vec<u8>, tag: u64, report: &StatReport) -> Result<(), Memory>
+    ensures { Appends out.old.items result out.new.items (statistics_front tag report.now) }
+{
+    put_parts(
+        out,
+        &[
+            Part::Text("statistics tag "),
+            Part::Number(tag),
+            Part::Text(" from "),
+            Part::Number(report.start),
+            Part::Text(" to "),
+            Part::Number(report.end),
+            Part::Text("\n"),
+        ],
+    )
 }
 
 /// Appends a line for each row.
@@ -43,24 +56,28 @@ fn write_row(out: &mut Vec<u8>, tailoring: &Tailoring, row: &StatRow) -> Result<
     ensures { Appends out.old.items result out.new.items (stat_line tailoring.now row.now) }
 {
     let scale = scale(tailoring);
-    put_text(out, b"stat ")?;
-    put_number(out, u64::from(row.param))?;
-    put_text(out, b" count ")?;
-    put_number(out, u64::from(row.count))?;
-    put_text(out, b" max ")?;
-    put_value(out, row.max)?;
-    put_text(out, b" at ")?;
-    put_number(out, row.max_time)?;
-    put_text(out, b" min ")?;
-    put_value(out, row.min)?;
-    put_text(out, b" at ")?;
-    put_number(out, row.min_time)?;
-    put_text(out, b" mean ")?;
-    put_value(out, row.mean)?;
-    put_text(out, b" scale ")?;
-    put_number(out, scale)?;
-    end_line(out)?;
-    Ok(())
+    put_parts(
+        out,
+        &[
+            Part::Text("stat "),
+            Part::Number(u64::from(row.param)),
+            Part::Text(" count "),
+            Part::Number(u64::from(row.count)),
+            Part::Text(" max "),
+            Part::Value(row.max),
+            Part::Text(" at "),
+            Part::Number(row.max_time),
+            Part::Text(" min "),
+            Part::Value(row.min),
+            Part::Text(" at "),
+            Part::Number(row.min_time),
+            Part::Text(" mean "),
+            Part::Value(row.mean),
+            Part::Text(" scale "),
+            Part::Number(scale),
+            Part::Text("\n"),
+        ],
+    )
 }
 
 /// How many units of a mean are one.
@@ -74,11 +91,23 @@ fn scale(tailoring: &Tailoring) -> u64
 pub fn write_current(out: &mut Vec<u8>, tag: u64, pairs: &[Setting]) -> Result<(), Memory>
     ensures { Appends out.old.items result out.new.items (current_lines tag pairs.now) }
 {
-    put_text(out, b"values tag ")?;
-    put_number(out, tag)?;
-    end_line(out)?;
+    write_current_front(out, tag)?;
     write_pairs(out, pairs)?;
     Ok(())
+}
+
+/// Appends the first line of the block of a report of values.
+fn write_current_front(out: &mut Vec<u8>, tag: u64) -> Result<(), Memory>
+    ensures { Appends out.old.items result out.new.items (current_front tag) }
+{
+    put_parts(
+        out,
+        &[
+            Part::Text("values tag "),
+            Part::Number(tag),
+            Part::Text("\n"),
+        ],
+    )
 }
 
 /// Appends a line for each pair.
@@ -95,10 +124,14 @@ fn write_pairs(out: &mut Vec<u8>, pairs: &[Setting]) -> Result<(), Memory>
 fn write_pair(out: &mut Vec<u8>, pair: Setting) -> Result<(), Memory>
     ensures { Appends out.old.items result out.new.items (current_line pair) }
 {
-    put_text(out, b"current ")?;
-    put_number(out, u64::from(pair.param))?;
-    put_text(out, b" = ")?;
-    put_value(out, pair.value)?;
-    end_line(out)?;
-    Ok(())
+    put_parts(
+        out,
+        &[
+            Part::Text("current "),
+            Part::Number(u64::from(pair.param)),
+            Part::Text(" = "),
+            Part::Value(pair.value),
+            Part::Text("\n"),
+        ],
+    )
 }

@@ -1,14 +1,15 @@
 //! The block of a parameter report.
-ghost use Rattle.std.specs.Prelude.{◌≡◌, ◌≤◌, ◌++◌, true, length};
+ghost use Rattle.std.specs.Prelude.{◌≡◌, ◌≤◌, true, length};
 ghost use Rattle.body_fields.specs.Outcomes.{Appends};
 ghost use Rattle.hk_base.specs.Definitions.{IsWellFormed};
 ghost use Rattle.hk_base.specs.Payload.{payload_read};
 ghost use Rattle.message_words.specs.Words as words;
 ghost use Rattle.definition_intervals.specs.Verdicts.{explains};
 ghost use Rattle.session_texts.specs.Blocks.{report_front, report_places, verdict_lines, value_lines};
-ghost use Rattle.block_lines.specs.Decisions.{IsExplained, report_lines, decision_lines, named_lines};
+ghost use Rattle.block_lines.specs.Decisions.{IsExplained, report_lines, decision_lines};
+ghost use Rattle.block_lines.specs.Parts.{numbered_end};
 
-use crate::fields::{end_line, put_number, put_text};
+use crate::parts::{Part, put_part, put_parts};
 use crate::values::write_values;
 use definition_intervals::Verdict;
 use hk_base::{Definition, Key, Kind, Memory, PayloadFault, Tailoring, slot_of};
@@ -38,22 +39,22 @@ pub fn write_report(
 fn write_front(out: &mut Vec<u8>, key: Key, tag: u64) -> Result<(), Memory>
     ensures { Appends out.old.items result out.new.items (report_front key tag) }
 {
-    put_text(out, b"report ")?;
-    put_text(out, kind_word(key.kind))?;
-    put_text(out, b" ")?;
-    put_number(out, u64::from(key.id))?;
-    put_text(out, b" tag ")?;
-    put_number(out, tag)?;
+    put_part(out, Part::Text("report "))?;
+    put_part(out, Part::Text(kind_word(key.kind)))?;
+    put_part(out, Part::Text(" "))?;
+    put_part(out, Part::Number(u64::from(key.id)))?;
+    put_part(out, Part::Text(" tag "))?;
+    put_part(out, Part::Number(tag))?;
     Ok(())
 }
 
 /// The word of a kind of structures.
-fn kind_word(kind: Kind) -> &'static [u8]
+fn kind_word(kind: Kind) -> &'static str
     ensures { result.now ≡ words.kind_word kind }
 {
     match kind {
-        Kind::Housekeeping => b"hk",
-        Kind::Diagnostic => b"diag",
+        Kind::Housekeeping => "hk",
+        Kind::Diagnostic => "diag",
     }
 }
 
@@ -71,39 +72,22 @@ fn write_verdict(
     ensures { Appends out.old.items result out.new.items (verdict_lines tailoring.now tag payload.now verdict.now) }
 {
     match verdict {
-        Verdict::Decided(def) => {
-            write_decision(alloc, out, tailoring, tag, def, payload)?;
-            Ok(())
-        }
-        Verdict::Undecidable(number) => {
-            write_request(out, b" undecidable ", *number)?;
-            Ok(())
-        }
-        Verdict::Crowded(number) => {
-            write_request(out, b" crowded ", *number)?;
-            Ok(())
-        }
-        Verdict::NoOpening => {
-            put_text(out, b" no-opening")?;
-            end_line(out)?;
-            Ok(())
-        }
-        Verdict::Impossible => {
-            put_text(out, b" impossible")?;
-            end_line(out)?;
-            Ok(())
-        }
+        Verdict::Decided(def) => write_decision(alloc, out, tailoring, tag, def, payload),
+        Verdict::Undecidable(number) => write_number_end(out, " undecidable ", *number),
+        Verdict::Crowded(number) => write_number_end(out, " crowded ", *number),
+        Verdict::NoOpening => put_part(out, Part::Text(" no-opening\n")),
+        Verdict::Impossible => put_part(out, Part::Text(" impossible\n")),
     }
 }
 
-/// Appends a text and the number of the request that is named, to the end of the line.
-fn write_request(out: &mut Vec<u8>, text: &[u8], number: u64) -> Result<(), Memory>
-    ensures { Appends out.old.items result out.new.items (named_lines text.now number) }
+/// Appends a word and a number after it, to the end of the line.
+fn write_number_end(out: &mut Vec<u8>, word: &str, number: u64) -> Result<(), Memory>
+    ensures { Appends out.old.items result out.new.items (numbered_end word.now number) }
 {
-    put_text(out, text)?;
-    put_number(out, number)?;
-    end_line(out)?;
-    Ok(())
+    put_parts(
+        out,
+        &[Part::Text(word), Part::Number(number), Part::Text("\n")],
+    )
 }
 
 /// Appends the interval of the definition in force, and a line for each value of the payload.
@@ -120,9 +104,7 @@ fn write_decision(
     requires limit { length payload.now ≤ 2147483648 }
     ensures { Appends out.old.items result out.new.items (decision_lines tailoring.now tag payload.now def.now) }
 {
-    put_text(out, b" decided interval ")?;
-    put_number(out, u64::from(def.interval))?;
-    end_line(out)?;
+    write_number_end(out, " decided interval ", u64::from(def.interval))?;
     write_payload(alloc, out, tailoring, tag, def, payload)?;
     Ok(())
 }
@@ -144,8 +126,7 @@ fn write_payload(
     match read_payload(alloc, tailoring, def, payload) {
         Ok(values) => {
             let last = slot_of(tailoring, tag) - 1;
-            write_values(out, def, last, values.as_slice())?;
-            Ok(())
+            write_values(out, def, last, values.as_slice())
         }
         Err(PayloadFault::Memory) => Err(Memory),
         Err(_) => unreachable!(),

@@ -5,7 +5,7 @@ ghost use Rattle.hk_base.specs.Payload.{places};
 ghost use Rattle.sample_slots.specs.Slots.{IsSampled};
 ghost use Rattle.session_texts.specs.Blocks.{value_line, value_lines};
 
-use crate::fields::{end_line, put_number, put_text, put_value};
+use crate::parts::{Part, put_parts};
 use hk_base::{Definition, Memory, Value};
 use sample_slots::{Place, place, place_count};
 
@@ -34,12 +34,16 @@ pub(crate) fn write_values(
 fn write_value(out: &mut Vec<u8>, place: Place, value: Value) -> Result<(), Memory>
     ensures { Appends out.old.items result out.new.items (value_line (place, value)) }
 {
-    put_text(out, b"value ")?;
-    put_number(out, u64::from(place.param))?;
-    put_text(out, b" slot ")?;
-    put_number(out, place.slot)?;
-    put_text(out, b" = ")?;
-    put_value(out, value)?;
-    end_line(out)?;
-    Ok(())
+    put_parts(
+        out,
+        &[
+            Part::Text("value "),
+            Part::Number(u64::from(place.param)),
+            Part::Text(" slot "),
+            Part::Number(place.slot),
+            Part::Text(" = "),
+            Part::Value(value),
+            Part::Text("\n"),
+        ],
+    )
 }

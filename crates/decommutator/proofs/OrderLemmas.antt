@@ -13,8 +13,9 @@ use Rattle.ground_history.specs.declared.answer.GotKind.TheVariants as became
 use Rattle.ground_history.specs.declared.answer.SentFault.{SentFault}
 use Rattle.session_record.specs.declared.entry.Entry.{Entry}
 use Rattle.session_record.specs.declared.entry.Entry.TheVariants as entry
-use Rattle.decommutator.specs.declared.counts.Counts.{Counts}
-use Rattle.decommutator.specs.Standing.{total, with_kind, known_with, counts_with}
+use Rattle.session_texts.specs.Sessions.{known_with}
+use Rattle.block_lines.specs.declared.counts.Counts.{Counts}
+use Rattle.decommutator.specs.Standing.{total, with_kind, counts_with}
 
 -- how many requests, kept packets and counted packets there are
 abbrev held : History → Counts → ℕ
@@ -53,14 +54,14 @@ held-got h c packet (skipped service subtype) = omega arith
 held-got h c packet unread = omega arith
 held-got h c packet (readable r) = held-report h c packet r (kind_by_reception h packet (readable r))
 
-held-with : (g : Ground) (c : Counts) (e : Entry) → held (known_with g e) (counts_with g c e) ≤ held g.history c + 1
+held-with : (g : Ground) (c : Counts) (e : Entry) → held (known_with (protocol g.tailoring) g.history e) (counts_with g c e) ≤ held g.history c + 1
 held-with g c (entry.Sent packet) = held-sent (protocol g.tailoring) g.history c packet (sent_answer (protocol g.tailoring) g.history packet)
 held-with g c (entry.Got packet) = held-got g.history c packet ((protocol g.tailoring).reception packet)
 held-with g c (entry.Line text) = omega arith
 
 -- one more entry keeps the order
 pub orderly-next : (g : Ground) (c : Counts) (e : Entry) (n : ℕ) (next : Ground) (counts : Counts)
-    → next ≡ with_history g (known_with g e) → counts ≡ counts_with g c e → held g.history c ≤ n → held next.history counts ≤ n + 1
+    → next ≡ with_history g (known_with (protocol g.tailoring) g.history e) → counts ≡ counts_with g c e → held g.history c ≤ n → held next.history counts ≤ n + 1
 orderly-next g c e n next counts p q most =
-    let step : held (known_with g e) (counts_with g c e) ≤ held g.history c + 1 = held-with g c e in
+    let step : held (known_with (protocol g.tailoring) g.history e) (counts_with g c e) ≤ held g.history c + 1 = held-with g c e in
     rw (p, q) (omega (arith, step, most))

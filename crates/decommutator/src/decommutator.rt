@@ -6,8 +6,9 @@ ghost use Rattle.session_record.specs.Writing.{Writes};
 ghost use Rattle.decommutator.specs.Standing.{new_standing, entry_answer, after_entry, after_unfollowed, ground_of, standing_text, standing_tally};
 ghost use Rattle.decommutator.specs.Finishing.{FinishCounts, FinishesWithin};
 
-use crate::counts::Counts;
+use crate::counts::no_counts;
 use crate::taking::take;
+use block_lines::Counts;
 use ground_history::{History, SentFault};
 use hk_base::{Items, Memory, Sink, Tailoring};
 use session_record::{Entry, WriteFault};
@@ -44,7 +45,7 @@ impl Decommutator {
         Decommutator {
             alloc,
             history: History::new(alloc, tailoring, known, long),
-            counts: Counts::new(),
+            counts: no_counts(),
             entries: 0,
             waiting: Some(Items::from_vec(Vec::new(alloc))),
         }

@@ -7,7 +7,6 @@ mod fault;
 mod laws;
 mod row;
 mod taking;
-mod walking;
 
 pub use decommutator::Decommutator;
 pub use fault::FollowFault;

@@ -4,7 +4,8 @@ ghost use Rattle.ground_history.specs.Ground.{IsAnswer};
 ghost use Rattle.session_record.specs.Records.{held_octets};
 ghost use Rattle.decommutator.specs.Standing.{total, answer_of, ground_after, counts_after};
 
-use crate::counts::Counts;
+use crate::counts::count;
+use block_lines::Counts;
 use ground_history::{History, SentFault};
 use session_record::Entry;
 
@@ -23,7 +24,7 @@ pub(crate) fn take(history: &mut History, counts: &mut Counts, entry: &Entry) ->
         }
         Entry::Got(packet) => {
             let kind = history.got(packet.as_slice())?;
-            counts.note(kind);
+            count(counts, kind);
             Ok(())
         }
         Entry::Line(_) => Ok(()),

@@ -6,7 +6,7 @@ use Rattle.report_structures.specs.Changes.{IsFormedState}
 use Rattle.definition_intervals.specs.Openings.{Opening}
 use Rattle.definition_intervals.specs.Findings.{AreCommon}
 use Rattle.definition_intervals.proofs.CommonLemmas.{common-step, narrowed-all}
-use Rattle.definition_intervals.proofs.deciding.common_states.Goals as goal
+use Rattle.definition_intervals.proofs.narrowing.common_states.Goals as goal
 
 pub loop-opening-preserved : goal.loop-opening-preserved
 loop-opening-preserved c =

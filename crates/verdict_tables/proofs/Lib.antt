@@ -1,0 +1,4 @@
+pub mod SearchLemmas
+pub mod RisingLemmas
+pub mod KeyLemmas
+pub mod BasesLemmas

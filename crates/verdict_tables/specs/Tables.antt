@@ -1,14 +1,15 @@
 -- Tables of the ranges of tags in which verdicts on a structure's reports rest on the same basis.
-use Rattle.std.specs.Prelude.{◌≡◌, ◌≢◌, ℕ, ◌+◌, ◌-◌, ◌^◌, ◌<◌, List, [], ◌∷◌, length, filter, slice_get, Bool, nat_le, Option, Some, None, MatchOption, unwrap_or, if◌then◌else◌}
+use Rattle.std.specs.Prelude.{◌≡◌, ◌≢◌, ℕ, ◌+◌, ◌-◌, ◌^◌, ◌<◌, List, [], ◌∷◌, length, filter, slice_get, Bool, nat_le, Option, Some, None, MatchOption, IfSome, unwrap_or, if◌then◌else◌}
 use Rattle.std.specs.Option.{option_map_or}
 use Rattle.std.specs.Map.{lookup}
 use Rattle.std.specs.List.Sorted.{IsStrictlyIncreasing}
+use Rattle.std.specs.List.{All}
 use Rattle.hk_base.specs.TailoringParts.{TailoringParts}
 use Rattle.hk_base.specs.Parameters.{boot_structure, key_eq}
 use Rattle.hk_base.specs.declared.types.Key.{Key}
 use Rattle.ground_history.specs.Histories.{History}
 use Rattle.ground_history.specs.Ground.{Ground}
-use Rattle.definition_intervals.specs.Bases.{verdict_on}
+use Rattle.definition_intervals.specs.Bases.{IsFormedBasis, verdict_on}
 use Rattle.definition_intervals.specs.Verdicts.{verdict}
 use Rattle.definition_intervals.specs.declared.answer.Basis.{Basis}
 use Rattle.definition_intervals.specs.declared.answer.Basis.TheVariants.{NoOpening, Open}
@@ -76,3 +77,8 @@ pub record IsRanges (ranges : RangeParts) : Type 0 where
 pub record IsSearched (ranges : RangeParts) (tag number : ℕ) : Type 0 where
   pub within : number < length ranges.firsts
   pub last : number + 1 ≡ begun ranges.firsts tag
+
+-- each basis that tables hold has valid states, sizes of payloads aside
+abbrev pub AreFormed : TableParts → Type 0
+AreFormed tables =
+    IfSome tables.tailoring (λ t. (key : Key) → IfSome (ranges_of tables key) (λ ranges. All (IsFormedBasis t) ranges.bases))

@@ -4,7 +4,10 @@
 mod bases;
 mod keys;
 mod ranges;
+mod start;
 mod steps;
+mod tables;
 
 pub use ranges::Ranges;
 pub use steps::Steps;
+pub use tables::Tables;

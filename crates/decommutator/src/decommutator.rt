@@ -4,7 +4,7 @@ ghost use Rattle.ground_history.specs.Ground.{IsAnswer, IsGrounded};
 ghost use Rattle.session_record.specs.Records.{held_octets};
 ghost use Rattle.session_record.specs.Writing.{Writes};
 ghost use Rattle.decommutator.specs.Standing.{new_standing, entry_answer, after_entry, after_unfollowed, ground_of, standing_text, standing_tally};
-ghost use Rattle.decommutator.specs.Finishing.{FinishCounts, FinishesWithin};
+ghost use Rattle.decommutator.specs.Output.{FinishCounts, FinishesWithin};
 
 use crate::counts::no_counts;
 use crate::taking::take;

@@ -29,6 +29,8 @@ pub(crate) fn write_blocks<K: Sink>(
 ) -> Result<(), WriteFault>
     ensures { Proceeds (out.old.items ++ flat_map (block history.now.tailoring history.now.history) history.now.history.kept) (seen_as (K.taken sink.old) (K.faults sink.old) (K.room sink.old)) result out.new.items (seen_as (K.taken sink.new) (K.faults sink.new) (K.room sink.new)) }
 {
+    // What it says of all that is known holds of each kept report: its payload is short.
+    let _tailoring = history.tailoring();
     for kept in history.packets() {
         put_block(alloc, history, kept, out)?;
         write_piece(sink, out)?;
@@ -74,6 +76,7 @@ fn put_report(
     // A law: it says what a decided definition is, and does nothing.
     decisions_are_formed();
     let tailoring = history.tailoring();
+    let _most = tailoring.widths();
     let verdict = verdict(alloc, history, key, tag, payload)?;
     write_report(alloc, out, tailoring, key, tag, &verdict, payload)
 }

@@ -9,6 +9,7 @@ mod laws;
 mod output;
 mod row;
 mod taking;
+mod text;
 
 pub use decommutator::Decommutator;
 pub use fault::FollowFault;

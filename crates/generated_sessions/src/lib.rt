@@ -5,7 +5,10 @@
 #![tactic(auto)]
 
 mod laws;
+mod packets;
+mod payload;
 mod rounds;
+mod schedule;
 mod structures;
 
 pub use laws::rounds_come_one_by_one;

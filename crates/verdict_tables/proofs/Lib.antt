@@ -8,3 +8,5 @@ pub mod CollectLemmas
 pub mod BuildLemmas
 pub mod KeyOrder
 pub mod OpeningLemmas
+pub mod NamedLemmas
+pub mod TableLemmas

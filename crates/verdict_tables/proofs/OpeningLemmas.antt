@@ -1,9 +1,9 @@
 -- The openings of a structure don't change with the tag between two places.
-use Rattle.std.proofs.Common.{arith, ◌≡◌, ℕ, suc, ◌+◌, ◌<◌, ◌≤◌, refl, sym, ◌∙◌, ap, subst, List, [], ◌∷◌, ◌++◌, Bool, true, false, ◌&&◌, ◌||◌, inl, inr, ◌⊎◌, Option, Some, None, length, flat_map}
+use Rattle.std.proofs.Common.{arith, ◌≡◌, ℕ, ◌+◌, ◌<◌, ◌≤◌, refl, sym, ◌∙◌, ap, subst, List, [], ◌∷◌, ◌++◌, Bool, true, false, ◌&&◌, ◌||◌, inl, inr, ◌⊎◌, Option, Some, None, flat_map}
 use Rattle.std.specs.Prelude.{filter_map, nat_lt, nat_le, not, option_map, option_and_then, option_to_list, is_some, if◌then◌else◌}
 use Rattle.std.specs.List.{cons_option, enumerate_from}
 use Rattle.std.specs.Option.{option_map_or}
-use Rattle.std.proofs.lemmas.Bool.{leb-true, leb-false, le-leb, lt-leb, ltb-true, ltb-false, lt-ltb, le-ltb}
+use Rattle.std.proofs.lemmas.Bool.{le-leb, lt-leb, lt-ltb, le-ltb}
 use Rattle.hk_base.specs.TailoringParts.{TailoringParts}
 use Rattle.hk_base.specs.Parameters.{boot_structure}
 use Rattle.hk_base.specs.declared.types.Key.{Key}
@@ -12,9 +12,9 @@ use Rattle.hk_base.proofs.Membership.{IsIn, IsIn-left, IsIn-right, flat_map-IsIn
 use Rattle.st03_grammar.specs.Instructions.{StructureChange}
 use Rattle.pus_messages.specs.Changes.{change_by}
 use Rattle.ground_history.specs.Histories.{Sent, Kept, History, tag_of}
-use Rattle.ground_history.specs.Evidence.{low, high, is_accepted, is_barred, is_excluded, outcome}
+use Rattle.ground_history.specs.Evidence.{low, high, is_accepted, is_barred, outcome}
 use Rattle.definition_intervals.specs.Openings.{Candidate, Opening, is_at_most, is_certain, is_possible, candidate, candidates, from_creation, opening, openings, boot_openings, report_opening, reported_structure}
-use Rattle.verdict_tables.specs.Places.{reports, can_change, report_places, bound_places, request_places, places}
+use Rattle.verdict_tables.specs.Places.{can_change, report_places, bound_places, request_places, places}
 
 -- a function that is the same at each member
 filter_map-same : {X Y : Type 0} (f g : X → Option Y) (xs : List X) → ((x : X) → IsIn x xs → f x ≡ g x) → filter_map f xs ≡ filter_map g xs
@@ -46,11 +46,32 @@ abbrev pub IsApart : History → Key → ℕ → ℕ → Type 0
 IsApart h key first tag = (n : ℕ) → IsIn n (places h key) → (n ≤ first) ⊎ (tag < n)
 
 -- a request that can change a structure has its bounds among the places
-bounds-there : (h : History) (key : Key) (k : ℕ) (sent : Sent) → IsIn (k, sent) (enumerate_from 0 h.requests) → can_change key sent ≡ true
+pub bounds-there : (h : History) (key : Key) (k : ℕ) (sent : Sent) → IsIn (k, sent) (enumerate_from 0 h.requests) → can_change key sent ≡ true
     → (n : ℕ) → IsIn n (bound_places h k) → IsIn n (places h key)
 bounds-there h key k sent i e n j =
     IsIn-right n (flat_map (report_places key) h.kept) (flat_map (request_places h key) (enumerate_from 0 h.requests))
     (flat_map-IsIn (request_places h key) (k, sent) n (enumerate_from 0 h.requests) i (subst (λ b. IsIn n (if b then bound_places h k else [])) (sym e) j))
+
+-- a report that tells of a structure has its place among the places
+pub report-there : (h : History) (key : Key) (k : Kept) (s : Structure) → IsIn k h.kept → reported_structure key k.report.body ≡ Some s → IsIn (tag_of k + 1) (places h key)
+report-there h key k s i e =
+    IsIn-left (tag_of k + 1) (flat_map (report_places key) h.kept) (flat_map (request_places h key) (enumerate_from 0 h.requests))
+    (flat_map-IsIn (report_places key) k (tag_of k + 1) h.kept i
+    (subst (λ (o : Option Structure). IsIn (tag_of k + 1) (if is_some o then (tag_of k + 1) ∷ [] else [])) (sym e) (inl refl)))
+
+none_either : {X : Type 0} (b : Bool) → if◌then◌else◌ {A = Option X} b None None ≡ None
+none_either true = refl
+none_either false = refl
+
+-- a request that can't change the structure is no candidate, and a report that tells nothing of it is no opening
+pub unchanged : (h : History) (key : Key) (from tag k : ℕ) (sent : Sent) → option_and_then (change_by key) sent.request ≡ None → candidate h key from tag (k, sent) ≡ None
+unchanged h key from tag k sent e =
+    ap (λ (o : Option (ℕ × StructureChange)). if is_possible h from tag k then option_map (λ (c : ℕ × StructureChange). record { number = k; change = c.1; certain = is_certain h from tag k; outcome = outcome h k c.0 }) o else None) e
+    ∙ none_either (is_possible h from tag k)
+
+pub untold : (h : History) (key : Key) (tag : ℕ) (k : Kept) → reported_structure key k.report.body ≡ None → report_opening h key tag k ≡ None
+untold h key tag k e =
+    ap (λ (o : Option Structure). if nat_lt (tag_of k) tag then option_map (λ s. opening h key tag (tag_of k) (Some s)) o else None) e ∙ none_either (nat_lt (tag_of k) tag)
 
 same-candidate : (h : History) (key : Key) (from first tag k : ℕ) (sent : Sent) → first ≤ tag → IsApart h key first tag → IsIn (k, sent) (enumerate_from 0 h.requests)
     → candidate h key from first (k, sent) ≡ candidate h key from tag (k, sent)
@@ -60,18 +81,10 @@ same-candidate h key from first tag k sent l apart i = go (option_and_then (chan
     made o possible certain =
         if possible then option_map (λ (c : ℕ × StructureChange). record { number = k; change = c.1; certain = certain; outcome = outcome h k c.0 }) o else None
 
-    none : (a b : Bool) → (if a then None {T = Candidate} else None) ≡ (if b then None else None)
-    none true true = refl
-    none true false = refl
-    none false true = refl
-    none false false = refl
-
     go : (o : Option (ℕ × StructureChange)) → option_and_then (change_by key) sent.request ≡ o
         → made (option_and_then (change_by key) sent.request) (is_possible h from first k) (is_certain h from first k)
         ≡ made (option_and_then (change_by key) sent.request) (is_possible h from tag k) (is_certain h from tag k)
-    go None e =
-        ap (λ (o : Option (ℕ × StructureChange)). made o (is_possible h from first k) (is_certain h from first k)) e
-        ∙ (none (is_possible h from first k) (is_possible h from tag k) ∙ sym (ap (λ (o : Option (ℕ × StructureChange)). made o (is_possible h from tag k) (is_certain h from tag k)) e))
+    go None e = unchanged h key from first k sent e ∙ sym (unchanged h key from tag k sent e)
     go (Some c) e =
         let there = bounds-there h key k sent i (ap (λ (o : Option (ℕ × StructureChange)). is_some o) e) in
         let above = same-ge (low h k) first tag l (apart (low h k + 1) (there (low h k + 1) (inl refl))) in
@@ -97,26 +110,12 @@ same-report h key first tag k l apart i = go (reported_structure key k.report.bo
     made : ℕ → Bool → Option Structure → Option Opening
     made t b o = if b then option_map (λ s. opening h key t (tag_of k) (Some s)) o else None
 
-    none : (a b : Bool) → (if a then None {T = Opening} else None) ≡ (if b then None else None)
-    none true true = refl
-    none true false = refl
-    none false true = refl
-    none false false = refl
-
-    there : (s : Structure) → reported_structure key k.report.body ≡ Some s → IsIn (tag_of k + 1) (places h key)
-    there s e =
-        IsIn-left (tag_of k + 1) (flat_map (report_places key) h.kept) (flat_map (request_places h key) (enumerate_from 0 h.requests))
-        (flat_map-IsIn (report_places key) k (tag_of k + 1) h.kept i
-        (subst (λ (o : Option Structure). IsIn (tag_of k + 1) (if is_some o then (tag_of k + 1) ∷ [] else [])) (sym e) (inl refl)))
-
     go : (o : Option Structure) → reported_structure key k.report.body ≡ o
         → made first (nat_lt (tag_of k) first) (reported_structure key k.report.body) ≡ made tag (nat_lt (tag_of k) tag) (reported_structure key k.report.body)
-    go None e =
-        ap (λ (o : Option Structure). made first (nat_lt (tag_of k) first) o) e
-        ∙ (none (nat_lt (tag_of k) first) (nat_lt (tag_of k) tag) ∙ sym (ap (λ (o : Option Structure). made tag (nat_lt (tag_of k) tag) o) e))
+    go None e = untold h key first k e ∙ sym (untold h key tag k e)
     go (Some s) e =
         ap (λ (o : Option Structure). made first (nat_lt (tag_of k) first) o) e
-        ∙ (ap (λ b. made first b (Some s)) (same-lt (tag_of k) first tag l (apart (tag_of k + 1) (there s e)))
+        ∙ (ap (λ b. made first b (Some s)) (same-lt (tag_of k) first tag l (apart (tag_of k + 1) (report-there h key k s i e)))
         ∙ (ap (λ (o : Opening). if nat_lt (tag_of k) tag then Some o else None) (same-opening h key (tag_of k) first tag (Some s) l apart)
         ∙ sym (ap (λ (o : Option Structure). made tag (nat_lt (tag_of k) tag) o) e)))
 

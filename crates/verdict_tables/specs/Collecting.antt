@@ -1,14 +1,14 @@
 -- What is held for each structure, and how the places of all are collected.
-use Rattle.std.specs.Prelude.{◌≡◌, ◌≢◌, ℕ, List, [], ◌∷◌, ◌++◌, flat_map, Option, Some, None, MatchOption, unwrap_or, if◌then◌else◌}
+use Rattle.std.specs.Prelude.{◌≡◌, ◌≢◌, ℕ, List, [], ◌++◌, flat_map, Option, MatchOption, unwrap_or, if◌then◌else◌}
 use Rattle.std.specs.Option.{option_map_or}
 use Rattle.std.specs.List.{All, enumerate_from}
 use Rattle.std.specs.Map.{lookup}
 use Rattle.hk_base.specs.Parameters.{key_eq}
 use Rattle.hk_base.specs.declared.types.Key.{Key}
-use Rattle.ground_history.specs.Histories.{Sent, Kept, History}
+use Rattle.ground_history.specs.Histories.{Sent, History}
 use Rattle.ground_history.specs.Ground.{Ground}
 use Rattle.definition_intervals.specs.Bases.{AreBases, IsFormedBasis}
-use Rattle.verdict_tables.specs.Places.{is_among, report_places, bound_places, changed_keys, places, AreFirsts}
+use Rattle.verdict_tables.specs.Places.{report_places, bound_places, changed_keys, places, AreFirsts}
 use Rattle.verdict_tables.specs.Tables.{RangeParts}
 
 -- what is held for a structure

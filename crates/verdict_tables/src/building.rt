@@ -14,6 +14,9 @@ use ground_history::History;
 use hk_base::{Items, Key, Memory};
 use std::alloc::Global;
 
+/// Most ranges of a structure: their number has 32 bits.
+const MOST_RANGES: usize = 4_294_967_295;
+
 /// The ranges of each structure that has places.
 pub(crate) fn built(alloc: Global, history: &History) -> Result<Structures, Memory>
     requires { IsGrounded history.now }
@@ -41,7 +44,7 @@ fn ranges_from(
 {
     let firsts = firsts_from(tags)?;
     let bases = bases(alloc, history, key, &firsts)?;
-    if u32::try_from(firsts.len()).is_err() {
+    if firsts.len() > MOST_RANGES {
         return Err(Memory);
     }
     Ok(Ranges::new(firsts, bases))

@@ -1,9 +1,9 @@
-use Rattle.std.proofs.Common.{arith, ◌≡◌, ◌∙◌, ◌<◌, ◌+◌, ℕ, List, Bor, Option, Some, None, length, sym, ap, subst, take, flat_map, add-one}
-use Rattle.std.specs.Prelude.{option_map, find, nat_le, slice_get}
+use Rattle.std.proofs.Common.{◌≡◌, ◌∙◌, ◌<◌, ◌+◌, Bor, Option, sym, ap, subst, add-one}
+use Rattle.std.specs.Prelude.{option_map}
 use Rattle.std.specs.Option.{option_copied}
 use Rattle.hk_base.proofs.Membership.{some_value}
 use Rattle.pus_messages.specs.declared.message.Report.{Report}
-use Rattle.ground_history.specs.Histories.{Kept, tag_of}
+use Rattle.ground_history.specs.Histories.{Kept}
 use Rattle.verdict_tables.specs.Places.{report_places}
 use Rattle.verdict_tables.proofs.CollectLemmas.{IsSplit, split-found, split-next, member-at, collects-both, collects-same, pieces-next, none_is_some}
 use Rattle.verdict_tables.proofs.collecting.add_reports.Goals as goal

@@ -1,5 +1,4 @@
-use Rattle.std.proofs.Common.{arith, ◌≡◌, ◌∙◌, ◌<◌, ◌≤◌, ◌+◌, ℕ, List, Bor, Option, Some, None, IfSome, length, sym, ap, subst, take, flat_map, add-one}
-use Rattle.std.specs.Prelude.{slice_get}
+use Rattle.std.proofs.Common.{arith, ◌≡◌, ◌∙◌, ◌<◌, ◌+◌, ℕ, List, Bor, Option, IfSome, sym, ap, subst, take, flat_map}
 use Rattle.std.specs.List.{enumerate_from}
 use Rattle.std.specs.Option.{option_copied}
 use Rattle.std.proofs.lemmas.List.{take_all}
@@ -8,7 +7,7 @@ use Rattle.hk_base.specs.declared.types.Key.{Key}
 use Rattle.pus_messages.specs.declared.message.Request.{Request}
 use Rattle.ground_history.specs.Histories.{Sent}
 use Rattle.verdict_tables.specs.Collecting.{Collects, sent_places}
-use Rattle.verdict_tables.proofs.CollectLemmas.{member-at, collects-both, collects-same, sent-step, unsent-step}
+use Rattle.verdict_tables.proofs.CollectLemmas.{member-at, collects-same, sent-step, unsent-step}
 use Rattle.verdict_tables.proofs.collecting.add_requests.Goals as goal
 use Rattle.verdict_tables.proofs.collecting.add_requests.Goals.{in-Some+in_ok-add_request, in_default}
 

@@ -1,4 +1,4 @@
-use Rattle.std.proofs.Common.{rules, ◌≡◌, ◌∙◌, ◌++◌, ◌∷◌, [], List, ℕ, None, Some, Option, subst, sym, ap}
+use Rattle.std.proofs.Common.{rules, ◌≡◌, ◌∙◌, ◌++◌, ◌∷◌, [], List, ℕ, None, Some, Option, subst, ap}
 use Rattle.std.specs.Prelude.{◌≢◌, unwrap_or}
 use Rattle.hk_base.specs.declared.types.Key.{Key}
 use Rattle.verdict_tables.specs.Collecting.{Collects, held_for, tags_if}

@@ -7,7 +7,7 @@ use Rattle.hk_base.specs.TailoringParts.{TailoringParts}
 use Rattle.pus_packet.specs.declared.header.TcHeader.{TcHeader}
 use Rattle.pus_messages.specs.Messages.{protocol}
 use Rattle.pus_messages.specs.Instructions.{instructions}
-use Rattle.pus_messages.specs.Spelling.{IsRequest, IsReport}
+use Rattle.pus_messages.specs.Spelling.{IsRequest, IsReport, HasRoom}
 use Rattle.ground_history.specs.Histories.{Sent, Kept, History, is_own, is_known_begun, sent_short, sent_long, tag_of, newest_tag, history_with_got, history_with_report, number_of_body, stray_id}
 use Rattle.hk_base.specs.declared.types.Memory.{Memory}
 use Rattle.st03_grammar.specs.declared.bodies.Report03.TheVariants as told
@@ -42,13 +42,14 @@ abbrev pub HaveRisingTags : List Kept → Type 0
 HaveRisingTags [] = Unit {0}
 HaveRisingTags (k ∷ ks) = AllByRecursion (λ later. tag_of k < tag_of later) ks × HaveRisingTags ks
 
--- what is known is of requests and reports of the grammar, in the order of floors and of tags, and no floor is above the tags that were kept
+-- what is known is of requests and reports of the grammar with payloads that are short enough, in the order of floors and of tags, and no floor is above the tags that were kept
 pub record IsGrounded (g : Ground) : Type 0 where
   pub requests : AllByRecursion (IsGrammarSent g.tailoring) g.history.requests
   pub reports : AllByRecursion (IsGrammarKept g.tailoring) g.history.kept
   pub floors : HaveRisingFloors g.history.requests
   pub reached : AllByRecursion (λ request. request.floor ≤ newest_tag g.history) g.history.requests
   pub tags : HaveRisingTags g.history.kept
+  pub short : AllByRecursion (λ k. HasRoom k.report.body) g.history.kept
 
 -- what is known is the first, and the tailoring that of the second
 abbrev pub with_history : Ground → History → Ground

@@ -6,7 +6,7 @@ ghost use Rattle.ground_history.specs.Histories as histories;
 ghost use Rattle.ground_history.specs.Histories.{tag_of, new_history, sent_answer, got_kind, history_with_sent};
 ghost use Rattle.ground_history.specs.Evidence as evidence;
 ghost use Rattle.pus_packet.specs.Packets.{checksum_octets};
-ghost use Rattle.pus_messages.specs.Spelling.{IsReportPacket};
+ghost use Rattle.pus_messages.specs.Spelling.{IsReportPacket, HasRoom};
 ghost use Rattle.ground_history.specs.Ground.{IsGrounded, HasNumber, IsAnswer, IsCountOf, with_history, is_room_for, got_result, report_result, own_count, answer_by_count};
 
 use crate::answer::{GotKind, Outcome, SentFault};
@@ -374,7 +374,8 @@ impl History {
 
     /// A report that was received: what becomes of it.
     fn got_report(&mut self, bytes: &[u8], report: Report) -> Result<GotKind, Memory>
-        requires { IsReportPacket self.old.tailoring report bytes.now }
+        requires spelled { IsReportPacket self.old.tailoring report bytes.now }
+        requires short { HasRoom report.body }
         ensures kind { IfOk result (λ kind. kind ≡ histories.kind_by_reception self.old.history bytes.now (readable report)) }
         ensures state { self.new ≡ with_history self.old (report_result self.old.history bytes.now report result) }
     {
@@ -425,6 +426,7 @@ impl History {
         requires sent { IfSome number (λ k. k < 2 ^ 63) }
         requires absent { histories.kept_at self.old.history report.header.tag ≡ None }
         requires spelled { IsReportPacket self.old.tailoring report bytes.now }
+        requires short { HasRoom report.body }
         ensures kept { OnOk result (self.new ≡ with_history self.old (histories.with_kept self.old.history bytes.now report)) }
         ensures same { OnErr result (self.new ≡ self.old) }
     {

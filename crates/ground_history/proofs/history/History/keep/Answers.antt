@@ -3,7 +3,7 @@ use Rattle.std.proofs.Common.{◌≡◌, ◌<◌, ◌^◌, List, ◌∙◌, sym,
 use Rattle.std.specs.Prelude.{find, ◌==◌}
 use Rattle.std.specs.Option.{IfSome, option_copied}
 use Rattle.std.proofs.lemmas.Option.{same_Some}
-use Rattle.pus_messages.specs.Spelling.{IsReport}
+use Rattle.pus_messages.specs.Spelling.{IsReport, HasRoom}
 use Rattle.ground_history.specs.Ground.{Ground, IsGrounded, HasPayload, payload_of}
 use Rattle.ground_history.specs.Histories.{Kept, tag_of, insert_kept}
 use Rattle.ground_history.specs.Indexes.{HasRoomFor, Says}
@@ -59,10 +59,11 @@ invariant_of-self-2 c =
     let says = c.note_kept.ensures c.self.inside.kept (c.make_room_for.ensures.same c.self.inside.kept c.self.invariant.0) in
     let report = subst (λ (g : Ground). IsReport g.tailoring c.args.report) (sym c.self.view_is) c.requires.spelled.message in
     let grammar = subst (λ (x : Kept). IsReport c.self.inside.tailoring x.report) (sym c.in_ok-packet.ensures) report in
+    let short = subst (λ (x : Kept). HasRoom x.report.body) (sym c.in_ok-packet.ensures) c.requires.short in
     let unkept = subst (λ (x : Kept). find (λ k. tag_of k == tag_of x) c.self.inside.kept ≡ None) (sym c.in_ok-packet.ensures) absent in (
       subst (λ (ks : List Kept). Says c.note_kept.new.self ks) (sym (c.in_ok-keep.ensures.kept ∙ ap (λ (x : Kept). insert_kept x c.self.inside.kept) (sym is))) says,
       subst (λ (ks : List Kept). IsGrounded (with_kept_packets (the_view c.self.inside) ks)) (sym c.in_ok-keep.ensures.kept)
-          (grounded-kept (the_view c.self.inside) c.in_ok-packet.packet c.self.invariant.1 unkept grammar),
+          (grounded-kept (the_view c.self.inside) c.in_ok-packet.packet c.self.invariant.1 unkept grammar short),
     )
 
 pub new-requires : goal.new-requires

@@ -1,0 +1,12 @@
+pub mod SearchLemmas
+pub mod RisingLemmas
+pub mod KeyLemmas
+pub mod BasesLemmas
+pub mod MemberLemmas
+pub mod CountLemmas
+pub mod CollectLemmas
+pub mod BuildLemmas
+pub mod KeyOrder
+pub mod OpeningLemmas
+pub mod NamedLemmas
+pub mod TableLemmas

@@ -49,7 +49,8 @@ params_fit first (suc count) h = (param_fit first (omega arith), params_fit (suc
 differs : (x y : ℕ) → x < y → eqb x y ≡ false
 differs x y h = grind (arith, nat_tests)
 
-id_differs : (x first count : ℕ) → x < first → AllByRecursion (λ y. eqb x y ≡ false) (map (λ (param : Param). param.id) (map made_param (numbers_from first count)))
+id_differs : (x first count : ℕ) → x < first
+    → AllByRecursion (λ y. eqb x y ≡ false) (map (λ (param : Param). param.id) (map made_param (numbers_from first count)))
 id_differs x first zero h = tt
 id_differs x first (suc count) h = (differs x first h, id_differs x (suc first) count (omega arith))
 
@@ -60,7 +61,10 @@ ids_distinct first (suc count) = (id_differs first (suc first) count (omega arit
 
 keys_distinct : IsDistinct key_eq (map (λ (boot : Boot). boot.key) (map made_boot (numbers_from 1 6)))
 unfolding IsDistinct
-keys_distinct = ((refl, (refl, (refl, (refl, (refl, tt))))), ((refl, (refl, (refl, (refl, tt)))), ((refl, (refl, (refl, tt))), ((refl, (refl, tt)), ((refl, tt), (tt, tt))))))
+keys_distinct = (
+  (refl, (refl, (refl, (refl, (refl, tt))))),
+  ((refl, (refl, (refl, (refl, tt)))), ((refl, (refl, (refl, tt))), ((refl, (refl, tt)), ((refl, tt), (tt, tt))))),
+)
 
 structure_1_fit : IsValid whole (definition_with 1 4)
 structure_1_fit = record {
@@ -153,7 +157,19 @@ whole_fit = record {
   params = params_fit 1 40 (lit≤ tt);
   ids = ids_distinct 1 40;
   boot_count = lit≤ tt;
-  boots = (record { id = lit< tt; valid = structure_1_fit }, (record { id = lit< tt; valid = structure_2_fit }, (record { id = lit< tt; valid = structure_3_fit }, (record { id = lit< tt; valid = structure_4_fit }, (record { id = lit< tt; valid = structure_5_fit }, (record { id = lit< tt; valid = structure_6_fit }, tt))))));
+  boots = (
+    record { id = lit< tt; valid = structure_1_fit },
+    (
+      record { id = lit< tt; valid = structure_2_fit },
+      (
+        record { id = lit< tt; valid = structure_3_fit },
+        (
+          record { id = lit< tt; valid = structure_4_fit },
+          (record { id = lit< tt; valid = structure_5_fit }, (record { id = lit< tt; valid = structure_6_fit }, tt)),
+        ),
+      ),
+    ),
+  );
   keys = keys_distinct;
 }
 

@@ -45,13 +45,15 @@ report_is header tag body h =
     ap (λ x. with_header x body) (h.is ∙ (ap (λ n. header_with tag n h.subtype) h.service_is ∙ ap (λ n. header_with tag (report_type body).0 n) h.subtype_is))
 
 -- what holds of a report of the session holds of these parts
-pub of_report : (P : TailoringParts → Report → Type 0) (t : TailoringParts) (header : TmHeader) (tag : ℕ) (body : ReportBody) → t ≡ made_tailoring → AreHeaders header tag body
+pub of_report : (P : TailoringParts → Report → Type 0) (t : TailoringParts) (header : TmHeader) (tag : ℕ) (body : ReportBody) → t ≡ made_tailoring
+    → AreHeaders header tag body
     → P made_tailoring (report_of tag body) → P t (with_header header body)
 of_report P t header tag body made h p =
     subst (λ x. P x (with_header header body)) (sym made) (subst (λ (r : Report). P made_tailoring r) (sym (report_is header tag body h)) p)
 
 -- the packet of these parts is that of the report
-pub packet_is : (t : TailoringParts) (header : TmHeader) (tag wanted : ℕ) (body : ReportBody) (packet : List ℕ) → t ≡ made_tailoring → AreHeaders header tag body → tag ≡ wanted
+pub packet_is : (t : TailoringParts) (header : TmHeader) (tag wanted : ℕ) (body : ReportBody) (packet : List ℕ) → t ≡ made_tailoring
+    → AreHeaders header tag body → tag ≡ wanted
     → packet ≡ report_octets t (with_header header body) → packet ≡ made_report wanted body
 unfolding made_report
 packet_is t header tag wanted body packet made h same e =
@@ -78,7 +80,8 @@ values_stand tag s payload early small = record {
   body = omega (arith, small);
 }
 
-pub values_size : (tag s : ℕ) (payload : List ℕ) → length payload ≤ 16 → length (report_octets made_tailoring (report_of tag (values_body s payload))) ≤ most_octets
+pub values_size : (tag s : ℕ) (payload : List ℕ) → length payload ≤ 16
+    → length (report_octets made_tailoring (report_of tag (values_body s payload))) ≤ most_octets
 unfolding made_tailoring
 values_size tag s payload short = omega (arith, short)
 
@@ -176,7 +179,8 @@ unfolding made_tailoring
 request_size q = lit≤ tt
 
 -- what holds of a request of the session holds of these parts
-pub of_request : (P : TailoringParts → Request → Type 0) (t : TailoringParts) (r : Request) (q : ℕ) → t ≡ made_tailoring → r ≡ request_of q → P made_tailoring (request_of q) → P t r
+pub of_request : (P : TailoringParts → Request → Type 0) (t : TailoringParts) (r : Request) (q : ℕ) → t ≡ made_tailoring → r ≡ request_of q
+    → P made_tailoring (request_of q) → P t r
 of_request P t r q made is p = subst (λ x. P x r) (sym made) (subst (λ (x : Request). P made_tailoring x) (sym is) p)
 
 -- what was written is the request's packet
@@ -193,7 +197,8 @@ unfolding made_tailoring made_request
 name_fits q = omega arith
 
 -- what names the request of these headers
-pub name_is : (q : ℕ) (header : TcHeader) (id : RequestId) → header ≡ (request_of q).header → ((t : TailoringParts) (body : List ℕ) → id ≡ id_of_packet (command_octets t header body))
+pub name_is : (q : ℕ) (header : TcHeader) (id : RequestId) → header ≡ (request_of q).header
+    → ((t : TailoringParts) (body : List ℕ) → id ≡ id_of_packet (command_octets t header body))
     → id ≡ id_of_packet (made_request q)
 unfolding made_request
 name_is q header id h named =
@@ -201,7 +206,8 @@ name_is q header id h named =
     ∙ ap (λ x. id_of_packet (command_octets made_tailoring x (request_body_octets made_tailoring (request_of q).body))) h
 
 -- the packet that holds the payload of a structure in a round is its report
-pub entry_is : (seed round s tag : ℕ) (packet payload : List ℕ) → tag ≡ round_tag round + s → payload ≡ made_payload seed s round → packet ≡ made_report tag (values_body s payload)
+pub entry_is : (seed round s tag : ℕ) (packet payload : List ℕ) → tag ≡ round_tag round + s → payload ≡ made_payload seed s round
+    → packet ≡ made_report tag (values_body s payload)
     → Got packet ≡ structure_entry seed round s
 entry_is seed round s tag packet payload same e h =
     ap Got

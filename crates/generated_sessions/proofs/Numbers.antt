@@ -18,7 +18,8 @@ number_more first count =
     ap (numbers_from first) next ∙ next_number first count
 
 -- a list of what numbers stand for, with one more
-pub mapped_more : {X : Type 0} (f : ℕ → X) (count : ℕ) (before after : List X) (x : X) → before ≡ map f (numbers_from 1 count) → x ≡ f (1 + count) → after ≡ before ++ x ∷ []
+pub mapped_more : {X : Type 0} (f : ℕ → X) (count : ℕ) (before after : List X) (x : X) → before ≡ map f (numbers_from 1 count) → x ≡ f (1 + count)
+    → after ≡ before ++ x ∷ []
     → after ≡ map f (numbers_from 1 (count + 1))
 mapped_more f count before after x e is h =
     h
@@ -28,11 +29,13 @@ mapped_more f count before after x e is h =
     ∙ ap (map f) (sym (number_more 1 count)))))
 
 -- numbers, with one more
-pub numbers_more : (first count : ℕ) (before after : List ℕ) → before ≡ numbers_from first count → after ≡ before ++ (first + count) ∷ [] → after ≡ numbers_from first (count + 1)
+pub numbers_more : (first count : ℕ) (before after : List ℕ) → before ≡ numbers_from first count → after ≡ before ++ (first + count) ∷ []
+    → after ≡ numbers_from first (count + 1)
 numbers_more first count before after e h = h ∙ (ap (λ xs. xs ++ (first + count) ∷ []) e ∙ sym (number_more first count))
 
 -- what comes of numbers in turn, with one more
-pub flat_mapped_more : {X : Type 0} (f : ℕ → List X) (count : ℕ) (front before after : List X) → before ≡ front ++ flat_map f (numbers_from 1 count) → after ≡ before ++ f (1 + count)
+pub flat_mapped_more : {X : Type 0} (f : ℕ → List X) (count : ℕ) (front before after : List X) → before ≡ front ++ flat_map f (numbers_from 1 count)
+    → after ≡ before ++ f (1 + count)
     → after ≡ front ++ flat_map f (numbers_from 1 (count + 1))
 flat_mapped_more f count front before after e h =
     h

@@ -8,4 +8,5 @@ returns-clause-name c = name_is c.args.request c.request_header.result c.request
 
 pub returns-clause-fits : goal.returns-clause-fits
 returns-clause-fits c =
-    subst IsRequestId (sym (name_is c.args.request c.request_header.result c.request_id.result c.request_header.ensures c.request_id.ensures)) (name_fits c.args.request)
+    subst IsRequestId (sym (name_is c.args.request c.request_header.result c.request_id.result c.request_header.ensures c.request_id.ensures))
+    (name_fits c.args.request)

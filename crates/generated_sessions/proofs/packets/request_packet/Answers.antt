@@ -14,11 +14,13 @@ write_request-requires c =
 pub packet_or_memory-requires : goal.packet_or_memory-requires
 packet_or_memory-requires c =
     not_too_long (request_octets c.args.tailoring.now c.in_ok-request.request) c.write_request.result c.write_request.ensures
-    (of_request (λ t r. length (request_octets t r) ≤ most_octets) c.args.tailoring.now c.in_ok-request.request c.args.request c.requires.tailoring c.in_ok-request.ensures
+    (of_request (λ t r. length (request_octets t r) ≤ most_octets) c.args.tailoring.now c.in_ok-request.request c.args.request c.requires.tailoring
+    c.in_ok-request.ensures
     (request_size c.args.request))
 
 pub returns : goal.returns
 returns c =
     IfOk-weaker c.packet_or_memory.result (λ packet. c.write_request.result ≡ Ok packet) (λ packet. packet ≡ made_request c.args.request)
-    (λ packet e. request_written c.args.tailoring.now c.in_ok-request.request c.args.request packet c.write_request.result c.requires.tailoring c.in_ok-request.ensures c.write_request.ensures e)
+    (λ packet e. request_written c.args.tailoring.now c.in_ok-request.request c.args.request packet c.write_request.result c.requires.tailoring
+    c.in_ok-request.ensures c.write_request.ensures e)
     c.packet_or_memory.ensures

@@ -16,14 +16,17 @@ report_packet-requires-clause-message c =
 pub report_packet-requires-clause-short : goal.report_packet-requires-clause-short
 report_packet-requires-clause-short c =
     let tag = c.round_tag.result + c.from.result in
-    of_report (λ t r. length (report_octets t r) ≤ most_octets) c.args.tailoring.now c.report_header.result tag (values_body c.args.structure c.in_ok-payload.payload) c.requires.tailoring
+    of_report (λ t r. length (report_octets t r) ≤ most_octets) c.args.tailoring.now c.report_header.result tag
+    (values_body c.args.structure c.in_ok-payload.payload) c.requires.tailoring
     (record { service = 3; subtype = 25; is = c.report_header.ensures; service_is = refl; subtype_is = refl })
     (values_size tag c.args.structure c.in_ok-payload.payload c.in_ok-payload.ensures.short)
 
 pub returns : goal.returns
 returns c =
     let tag = c.round_tag.result + c.from.result in
-    entry_is c.args.seed c.args.round c.args.structure (round_tag c.args.round + c.args.structure) c.in_ok-report_packet.field-0 c.in_ok-payload.payload refl c.in_ok-payload.ensures.payload
-    (packet_is c.args.tailoring.now c.report_header.result tag (round_tag c.args.round + c.args.structure) (values_body c.args.structure c.in_ok-payload.payload) c.in_ok-report_packet.field-0 c.requires.tailoring
+    entry_is c.args.seed c.args.round c.args.structure (round_tag c.args.round + c.args.structure) c.in_ok-report_packet.field-0
+    c.in_ok-payload.payload refl c.in_ok-payload.ensures.payload
+    (packet_is c.args.tailoring.now c.report_header.result tag (round_tag c.args.round + c.args.structure)
+    (values_body c.args.structure c.in_ok-payload.payload) c.in_ok-report_packet.field-0 c.requires.tailoring
     (record { service = 3; subtype = 25; is = c.report_header.ensures; service_is = refl; subtype_is = refl })
     (ap (λ n. n + c.from.result) c.round_tag.ensures.tag ∙ ap (λ n. round_tag c.args.round + n) c.from.ensures) c.in_ok-report_packet.ensures)

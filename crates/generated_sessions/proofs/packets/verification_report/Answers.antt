@@ -18,7 +18,8 @@ report_packet-requires-clause-message c =
 pub report_packet-requires-clause-short : goal.report_packet-requires-clause-short
 report_packet-requires-clause-short c =
     let tag = c.round_tag.result + c.args.ticks in
-    of_report (λ t r. length (report_octets t r) ≤ most_octets) c.args.tailoring.now c.report_header.result tag (tell.Verify c.args.verification) c.requires.tailoring
+    of_report (λ t r. length (report_octets t r) ≤ most_octets) c.args.tailoring.now c.report_header.result tag (tell.Verify c.args.verification)
+    c.requires.tailoring
     (record { service = 1; subtype = c.subtype-subtype.result; is = c.report_header.ensures; service_is = refl; subtype_is = c.subtype-subtype.ensures })
     (verification_size tag c.args.verification c.requires.plain)
 
@@ -26,6 +27,7 @@ pub returns : goal.returns
 returns c =
     let tag = c.round_tag.result + c.args.ticks in
     ap Got
-    (packet_is c.args.tailoring.now c.report_header.result tag (round_tag (16 * c.args.request) + c.args.ticks) (tell.Verify c.args.verification) c.in_ok-report_packet.field-0 c.requires.tailoring
+    (packet_is c.args.tailoring.now c.report_header.result tag (round_tag (16 * c.args.request) + c.args.ticks) (tell.Verify c.args.verification)
+    c.in_ok-report_packet.field-0 c.requires.tailoring
     (record { service = 1; subtype = c.subtype-subtype.result; is = c.report_header.ensures; service_is = refl; subtype_is = c.subtype-subtype.ensures })
     (ap (λ n. n + c.args.ticks) c.round_tag.ensures.tag) c.in_ok-report_packet.ensures)

@@ -7,6 +7,7 @@ use Rattle.generated_sessions.proofs.payload.put_samples.Goals as goal
 
 pub loop-number-preserved : goal.loop-number-preserved
 loop-number-preserved c =
-    sample_more (sample_octets c.args.seed) (places c.args.def.now c.args.last) c.loop-number.number c.in-Some.place c.args.out.now.items c.loop-number.out.items
+    sample_more (sample_octets c.args.seed) (places c.args.def.now c.args.last) c.loop-number.number c.in-Some.place c.args.out.now.items
+    c.loop-number.out.items
     c.put_uint.new.out.items (sym c.in-Some.ensures)
     (c.in_ok-put_uint.ensures.ok ∙ ap (λ n. c.loop-number.out.items ++ octets_of 2 n) c.sample.ensures.sample) c.loop-number.invariant

@@ -1,7 +1,8 @@
 -- The tags at which the openings of a structure change.
-use Rattle.std.specs.Prelude.{◌≡◌, ℕ, ◌+◌, ◌*◌, List, [], ◌∷◌, ◌++◌, length, filter, flat_map, filter_map, Bool, ◌==◌, Option, Some, None, is_some, option_and_then, option_to_list, if◌then◌else◌}
+use Rattle.std.specs.Prelude.{◌≡◌, ℕ, ◌+◌, ◌*◌, ◌<◌, ◌≤◌, ◌⊎◌, List, [], ◌∷◌, ◌++◌, length, filter, flat_map, filter_map, Bool, true, ◌==◌, Option, Some, None, is_some, option_and_then, option_to_list, if◌then◌else◌}
 use Rattle.std.specs.List.{enumerate_from, list_any}
 use Rattle.std.specs.List.Sorted.{IsStrictlyIncreasing}
+use Rattle.hk_base.specs.TailoringParts.{TailoringParts}
 use Rattle.hk_base.specs.declared.types.Key.{Key}
 use Rattle.st03_grammar.specs.Instructions.{changes}
 use Rattle.pus_messages.specs.Instructions.{Instruction, on_structure, instructions}
@@ -9,7 +10,7 @@ use Rattle.pus_messages.specs.Changes.{change_by}
 use Rattle.pus_messages.specs.declared.message.Request.{Request}
 use Rattle.ground_history.specs.Histories.{Sent, Kept, History, tag_of}
 use Rattle.ground_history.specs.Evidence.{low, high}
-use Rattle.definition_intervals.specs.Openings.{reported_structure}
+use Rattle.definition_intervals.specs.Openings.{reported_structure, openings}
 
 -- whether a kept packet reports a structure
 abbrev pub reports : Key → Kept → Bool
@@ -56,3 +57,13 @@ changed_key _ = None
 -- the structures that a request can change
 abbrev pub changed_keys : Request → List Key
 changed_keys r = filter_map changed_key (instructions r)
+
+-- no place of a structure is above one tag and not above another
+abbrev pub HaveNoPlaceBetween : History → Key → ℕ → ℕ → Type 0
+HaveNoPlaceBetween h key first tag = (place : ℕ) → is_among place (places h key) ≡ true → (place ≤ first) ⊎ (tag < place)
+
+-- The openings of a structure at two tags with no place between them are the same, with their lists and what is certain.
+abbrev pub OpeningsStay : Type 0
+OpeningsStay =
+    (t : TailoringParts) (h : History) (key : Key) (first tag : ℕ)
+    → first ≤ tag → HaveNoPlaceBetween h key first tag → openings t h key first ≡ openings t h key tag

@@ -5,6 +5,7 @@ mod bases;
 mod building;
 mod collecting;
 mod keys;
+mod laws;
 mod places;
 mod ranges;
 mod start;
@@ -12,6 +13,10 @@ mod steps;
 mod structures;
 mod tables;
 
+pub use laws::openings_stay;
 pub use ranges::Ranges;
 pub use steps::Steps;
 pub use tables::Tables;
+
+#[cfg(test)]
+mod tests;

@@ -6,7 +6,7 @@ ghost use Rattle.ground_history.specs.Histories.{new_history};
 ghost use Rattle.ground_history.specs.Ground.{Ground};
 ghost use Rattle.definition_intervals.specs.Verdicts as verdicts;
 ghost use Rattle.verdict_tables.specs.Places.{most_ranges};
-ghost use Rattle.verdict_tables.specs.Tables.{StandsFor, table_verdict, range_count, ranges_of};
+ghost use Rattle.verdict_tables.specs.Tables.{StandsFor, HasRanges, table_verdict, range_count, ranges_of};
 
 use crate::building::built;
 use crate::ranges::Ranges;
@@ -101,7 +101,8 @@ impl Tables {
 
     /// The ranges of a structure; None exactly where no kept report tells of it and no request can change it.
     pub fn ranges(&self, key: Key) -> Option<&Ranges>
-        ensures { option_copied result ≡ ranges_of self.now key }
+        ensures ranges { option_copied result ≡ ranges_of self.now key }
+        ensures known { (g : Ground) → StandsFor self.now g → HasRanges g.history key (option_copied result) }
     {
         self.structures.get(key)
     }

@@ -6,5 +6,5 @@ use Rattle.verdict_tables.proofs.tables.Tables.verdict.Goals as goal
 
 pub returns-in-Some-ranges-clause-bound : goal.returns-in-Some-ranges-clause-bound
 returns-in-Some-ranges-clause-bound g c =
-    let found = sym c.ranges-2.ensures ∙ ap (λ (o : Option (Bor RangeParts)). option_copied o) c.in-Some-ranges.is in
+    let found = sym c.ranges-2.ensures.ranges ∙ ap (λ (o : Option (Bor RangeParts)). option_copied o) c.in-Some-ranges.is in
     λ ground stands. omega (arith, c.basis_in-basis.ensures.cost, ranges-few ground.history c.args.key _ c.in-Some-ranges.ranges.now (stands.ranges c.args.key) found)

@@ -11,10 +11,10 @@ pub fn rounds_come_one_by_one()
     ensures end { (seed count : ℕ) → made.generated seed count ≡ made.rounds seed count ++ made.late_entries seed count }
 {}
 
-/// The entries of a round, and the last ones, are few, and each is short.
+/// The entries of a round are few, and so are the last ones. Each holds no more octets than a packet has.
 pub fn entries_are_short()
-    ensures few { (seed round : ℕ) → length (made.round_entries seed round) ≤ 17 }
-    ensures short { (seed round : ℕ) → All IsShortEntry (made.round_entries seed round) }
-    ensures few_last { (seed count : ℕ) → length (made.late_entries seed count) ≤ 1 }
-    ensures short_last { (seed count : ℕ) → All IsShortEntry (made.late_entries seed count) }
+    ensures round { (seed round : ℕ) → All IsShortEntry (made.round_entries seed round) }
+    ensures few { (seed round : ℕ) → length (made.round_entries seed round) ≤ 32 }
+    ensures late { (seed count : ℕ) → All IsShortEntry (made.late_entries seed count) }
+    ensures one { (seed count : ℕ) → length (made.late_entries seed count) ≤ 1 }
 {}

@@ -7,7 +7,7 @@ use Rattle.pus_messages.specs.Messages.{protocol}
 use Rattle.session_record.specs.Records.{Entries, header_of, read_record, record_octets}
 use Rattle.session_record.specs.declared.header.Header.{Header}
 use Rattle.session_record.specs.declared.entry.Entry.{Entry}
-use Rattle.session_record.specs.declared.entry.Entry.TheVariants.{Sent, Got, Line}
+use Rattle.session_record.specs.declared.entry.Entry.TheVariants.{Sent, Got}
 use Rattle.session_record.specs.declared.entry.RecordFault.{RecordFault}
 use Rattle.session_record.specs.declared.entry.RecordFault.TheVariants.{Cut}
 use Rattle.ground_history.specs.declared.answer.SentFault.TheVariants.{WrongCount}

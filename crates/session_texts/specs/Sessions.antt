@@ -3,7 +3,7 @@ use Rattle.std.specs.Prelude.{ℕ, List, [], ◌∷◌, ◌++◌, filter_map, re
 use Rattle.std.specs.Option.{option_or}
 use Rattle.pus_messages.specs.Protocol.{Protocol}
 use Rattle.hk_world.specs.Worlds as worlds
-use Rattle.ground_history.specs.Histories.{History, history_of, sent_answer, got_kind}
+use Rattle.ground_history.specs.Histories.{History, history_of, history_with, sent_answer, got_kind}
 use Rattle.ground_history.specs.declared.answer.GotKind.{GotKind}
 use Rattle.ground_history.specs.declared.answer.SentFault.{SentFault}
 use Rattle.session_record.specs.Records.{Entries, read_record}
@@ -28,6 +28,12 @@ seen entries = reverse (filter_map seen_entry entries)
 abbrev pub known_after : Protocol → Header → List Entry → History
 known_after p h entries = history_of p h.known h.long (seen entries)
 
+-- what is known after one more entry: a line of the journal tells nothing
+abbrev pub known_with : Protocol → History → Entry → History
+known_with p h (Sent packet) = history_with p h (worlds.sent packet)
+known_with p h (Got packet) = history_with p h (worlds.got packet)
+known_with p h (Line text) = h
+
 -- what became of each packet that was received, the newest first
 abbrev pub kinds_of : Protocol → Header → List worlds.Entry → List GotKind
 kinds_of p h [] = []
@@ -37,6 +43,12 @@ kinds_of p h (worlds.got packet ∷ earlier) = got_kind p (history_of p h.known 
 -- what became of each packet that was received
 abbrev pub kinds_after : Protocol → Header → List Entry → List GotKind
 kinds_after p h entries = kinds_of p h (seen entries)
+
+-- what became of each packet that was received, with one more entry
+abbrev pub kinds_with : Protocol → History → Entry → List GotKind → List GotKind
+kinds_with p h (Sent packet) kinds = kinds
+kinds_with p h (Got packet) kinds = got_kind p h packet ∷ kinds
+kinds_with p h (Line text) kinds = kinds
 
 -- why a packet can't have been sent at an offset
 abbrev pub answer_problem : ℕ → Result Bool SentFault → Option RecordProblem

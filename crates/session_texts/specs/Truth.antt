@@ -1,35 +1,43 @@
 -- When a text is true of what a board did.
-use Rattle.std.specs.Prelude.{◌≡◌, ◌<◌, ⊤, ℕ, ℤ, List, ◌++◌, codes, map, flat_map, slice_get, Option, Some, None, IsFalse}
-use Rattle.std.specs.List.{AllByRecursion}
+use Rattle.std.specs.Prelude.{◌≡◌, ◌≢◌, ◌<◌, ◌≤◌, ⊤, ℕ, ◌+◌, ℤ, List, [], ◌∷◌, ◌++◌, codes, map, flat_map, slice_get, Bool, true, false, ◌==◌, Some, IsTrue, IsFalse, if◌then◌else◌}
+use Rattle.std.specs.List.{AllByRecursion, count_by, list_any}
 use Rattle.std.specs.Fmt.{decimal}
 use Rattle.hk_base.specs.TailoringParts.{TailoringParts}
 use Rattle.hk_base.specs.declared.types.Key.{Key}
 use Rattle.hk_base.specs.declared.types.Place.{Place}
+use Rattle.hk_base.specs.declared.types.Definition.{Definition}
 use Rattle.hk_base.specs.declared.types.Structure.{Structure}
 use Rattle.st03_grammar.specs.declared.bodies.Report03.TheVariants as hk
 use Rattle.st04_grammar.specs.declared.bodies.StatRow.{StatRow}
 use Rattle.st04_grammar.specs.declared.bodies.StatReport.{StatReport}
+use Rattle.st04_grammar.specs.declared.bodies.Report04.TheVariants as stat
 use Rattle.st20_grammar.specs.declared.bodies.Setting.{Setting}
-use Rattle.pus_messages.specs.declared.message.ReportBody.TheVariants.{Hk}
-use Rattle.hk_world.specs.Timelines.{EachAfter, tailoring}
+use Rattle.st20_grammar.specs.declared.bodies.Report20.{Report20}
+use Rattle.pus_messages.specs.Protocol.{Reception, foreign, skipped}
+use Rattle.pus_messages.specs.declared.message.ReportBody.{ReportBody}
+use Rattle.pus_messages.specs.declared.message.ReportBody.TheVariants.{Hk, Stat, Par}
+use Rattle.hk_world.specs.Timelines.{tailoring}
 use Rattle.hk_world.specs.Honest.{IsReport}
-use Rattle.hk_world.specs.Worlds.{World, IsTrueValue, IsTrueStat, IsTrueCurrent, deliveries_of, world_state_at}
+use Rattle.hk_world.specs.Worlds.{World, Step, stray, Reports, IsTrueValue, IsTrueStat, IsTrueCurrent, deliveries_of, entries_seen, world_state_at}
 use Rattle.hk_world.specs.declared.moment.Moment.{Moment}
 use Rattle.ground_history.specs.Bounds.{history_in}
 use Rattle.ground_history.specs.declared.answer.GotKind.{GotKind}
-use Rattle.definition_intervals.specs.Openings.{Opening, openings, is_settled}
-use Rattle.definition_intervals.specs.Verdicts.{named_request}
+use Rattle.definition_intervals.specs.Openings.{Opening, openings, first_open, is_settled}
 use Rattle.definition_intervals.specs.Soundness.{IsOpenChange, places_of}
 use Rattle.definition_intervals.specs.declared.answer.Verdict.{Verdict}
 use Rattle.definition_intervals.specs.declared.answer.Verdict.TheVariants.{Decided, Undecidable, Crowded, NoOpening, Impossible}
+use Rattle.session_record.specs.Records.{header_of}
+use Rattle.session_record.specs.declared.header.Header.{Header}
+use Rattle.session_record.specs.declared.entry.Entry.{Entry}
+use Rattle.session_texts.specs.Sessions.{seen, kinds_of}
 use Rattle.session_texts.specs.Blocks.{line_end, report_front, value_line, statistics_lines, current_lines}
-use Rattle.session_texts.specs.Texts.{count_lines}
+use Rattle.session_texts.specs.Texts.{is_repeat, is_conflict, is_foreign, is_skipped, is_unread, is_stray, count_lines}
 
 -- The block of a kept report: of a parameter report with its structure, its tag, the verdict on it, and its values with their places; of a statistics report; or of a report of current values.
 pub data Block : Type 0 where
   parameter_block : Key → ℕ → Verdict → List (Place × ℤ) → Block
   statistics_block : ℕ → StatReport → Block
-  current_block : ℕ → List Setting → Block
+  current_block : ℕ → Report20 → Block
 
 -- what the first line of a parameter report's block says of the verdict
 abbrev pub verdict_line : Verdict → List ℕ
@@ -43,68 +51,123 @@ verdict_line Impossible = codes " impossible" ++ line_end
 abbrev pub block_lines : TailoringParts → Block → List ℕ
 block_lines t (parameter_block key tag verdict rows) = report_front key tag ++ (verdict_line verdict ++ flat_map value_line rows)
 block_lines t (statistics_block tag report) = statistics_lines t tag report
-block_lines t (current_block tag pairs) = current_lines tag pairs
+block_lines t (current_block tag report) = current_lines tag report.pairs
 
 -- the tag of a block's report
 abbrev pub block_tag : Block → ℕ
 block_tag (parameter_block key tag verdict rows) = tag
 block_tag (statistics_block tag report) = tag
-block_tag (current_block tag pairs) = tag
+block_tag (current_block tag report) = tag
 
 -- the openings of a structure for a report with a tag, by all that the ground knows in a world
 abbrev pub openings_in : World → Key → ℕ → List Opening
 openings_in w key tag = openings (tailoring w.session) (history_in w) key tag
 
--- A request is the first open change of the opening with the greatest tag, and no opening is without one.
+-- A request is the first open change of the opening with the greatest tag, and no opening is without an open change.
 pub record IsNamed (w : World) (key : Key) (tag k : ℕ) : Type 0 where
-  pub named : named_request (openings_in w key tag) ≡ k
+  pub place : ℕ
+  pub opening : Opening
+  pub there : slice_get (openings_in w key tag) place ≡ Some opening
+  pub greatest : AllByRecursion (λ o. o.tag ≤ opening.tag) (openings_in w key tag)
+  pub first : first_open opening ≡ Some k
   pub open_change : IsOpenChange (openings_in w key tag) k
   pub unsettled : IsFalse (is_settled (tailoring w.session) (history_in w) key tag)
 
--- The values of a decided report are true: there is one for each place of the definition in force, and each is the sample that the board took there.
-pub record AreTrueRows (w : World) (key : Key) (tag interval : ℕ) (rows : List (Place × ℤ)) : Type 0 where
+-- The values of a decided report are true: the definition is the one in force, there is one value for each of its places, and each is the sample that the board took there.
+pub record AreTrueRows (w : World) (key : Key) (tag : ℕ) (d : Definition) (rows : List (Place × ℤ)) : Type 0 where
   pub structure : Structure
   pub in_force : (world_state_at w tag).structure key ≡ Some structure
-  pub interval_is : structure.def.interval ≡ interval
-  pub places : map (λ r. r.0) rows ≡ places_of w tag structure.def
+  pub definition_is : structure.def ≡ d
+  pub places : map (λ r. r.0) rows ≡ places_of w tag d
   pub values : (row : ℕ) (place : Place) (value : ℤ) → slice_get rows row ≡ Some (place, value)
-      → IsTrueValue w key tag interval row place.param place.slot value
+      → IsTrueValue w key tag d.interval row place.param place.slot value
 
 -- What a parameter report's block says is so in a world: its values are true where it is decided; or else it has none, and an open change is named, or no state of the structure is known. No report is impossible.
 abbrev pub IsTrueVerdict : World → Key → ℕ → Verdict → List (Place × ℤ) → Type 0
-IsTrueVerdict w key tag (Decided d) rows = AreTrueRows w key tag d.interval rows
+IsTrueVerdict w key tag (Decided d) rows = AreTrueRows w key tag d rows × (openings_in w key tag ≢ [])
 IsTrueVerdict w key tag (Undecidable k) rows = IsNamed w key tag k × (rows ≡ [])
 IsTrueVerdict w key tag (Crowded k) rows = IsNamed w key tag k × (rows ≡ [])
 IsTrueVerdict w key tag NoOpening rows = (openings_in w key tag ≡ []) × (rows ≡ [])
 IsTrueVerdict w key tag Impossible rows = ⊥
 
--- what a block says is so in a world: for statistics and current values the board reported each row
+-- a report with this tag and body is one that the board made, and it was delivered
+pub record IsOfReport (w : World) (tag : ℕ) (body : ReportBody) : Type 0 where
+  pub made : Reports w tag body
+  pub number : ℕ
+  pub moment : Moment
+  pub delivered : slice_get (deliveries_of w.steps) number ≡ Some moment
+  pub tag_is : moment.tag ≡ tag
+  pub report : IsReport w.session moment body
+
+-- What a block says is so in a world: its report was delivered, and its verdict is true, or the board reported each of its rows.
 abbrev pub IsTrueBlock : World → Block → Type 0
-IsTrueBlock w (parameter_block key tag verdict rows) = IsTrueVerdict w key tag verdict rows
-IsTrueBlock w (statistics_block tag report) = (row : ℕ) (x : StatRow) → slice_get report.rows row ≡ Some x → IsTrueStat w tag row x
-IsTrueBlock w (current_block tag pairs) = (row : ℕ) (x : Setting) → slice_get pairs row ≡ Some x → IsTrueCurrent w tag row x
+IsTrueBlock w (parameter_block key tag verdict rows) =
+    ((payload : List ℕ) × IsOfReport w tag (Hk (hk.Values key payload))) × IsTrueVerdict w key tag verdict rows
+IsTrueBlock w (statistics_block tag report) =
+    IsOfReport w tag (Stat (stat.Statistics report)) × ((row : ℕ) (x : StatRow) → slice_get report.rows row ≡ Some x → IsTrueStat w tag row x)
+IsTrueBlock w (current_block tag report) =
+    IsOfReport w tag (Par report) × ((row : ℕ) (x : Setting) → slice_get report.pairs row ≡ Some x → IsTrueCurrent w tag row x)
 
--- a block is that of a parameter report of a structure with a tag
-abbrev pub IsBlockOf : Key → ℕ → Block → Type 0
-IsBlockOf key tag (parameter_block named at verdict rows) = (named ≡ key) × (at ≡ tag)
-IsBlockOf key tag block = ⊥
+-- a block is that of a report with a tag and a body: a parameter report, a statistics report or a report of current values
+abbrev pub IsBlockOf : ℕ → ReportBody → Block → Type 0
+IsBlockOf tag (Hk (hk.Values key payload)) (parameter_block named at verdict rows) = (named ≡ key) × (at ≡ tag)
+IsBlockOf tag (Stat (stat.Statistics report)) (statistics_block at told) = (told ≡ report) × (at ≡ tag)
+IsBlockOf tag (Par report) (current_block at told) = (told ≡ report) × (at ≡ tag)
+IsBlockOf tag body b = ⊥
 
--- one of the blocks is that of a parameter report of a structure with a tag
-abbrev pub HasBlock : List Block → Key → ℕ → Type 0
-HasBlock blocks key tag = (i : ℕ) × (b : Block) × (slice_get blocks i ≡ Some b) × IsBlockOf key tag b
+-- whether a report has a block: message types [3,25], [3,26], [4,2] and [20,2]
+abbrev pub has_block : ReportBody → Bool
+has_block (Hk (hk.Values key payload)) = true
+has_block (Stat (stat.Statistics report)) = true
+has_block (Par report) = true
+has_block _ = false
 
--- each parameter report that was delivered has a block
+-- one of the blocks is that of a report with a tag and a body
+abbrev pub HasBlock : List Block → ℕ → ReportBody → Type 0
+HasBlock blocks tag body = (i : ℕ) × (b : Block) × (slice_get blocks i ≡ Some b) × IsBlockOf tag body b
+
+-- each report that was delivered and has a block has one of these
 abbrev pub HasEachReport : World → List Block → Type 0
 HasEachReport w blocks =
-    (i : ℕ) (m : Moment) (key : Key) (payload : List ℕ) → slice_get (deliveries_of w.steps) i ≡ Some m
-    → IsReport w.session m (Hk (hk.Values key payload)) → HasBlock blocks key m.tag
+    (i : ℕ) (m : Moment) (body : ReportBody) → slice_get (deliveries_of w.steps) i ≡ Some m → IsReport w.session m body
+    → IsTrue (has_block body) → HasBlock blocks m.tag body
 
 -- no two blocks have one tag: each has one above those before it
 abbrev pub HaveRisingTags : List Block → Type 0
 HaveRisingTags [] = ⊤
 HaveRisingTags (b ∷ bs) = AllByRecursion (λ later. block_tag b < block_tag later) bs × HaveRisingTags bs
 
--- A text is true in a world: it is blocks in the order of tags and then counts, each block is true, and each parameter report that was delivered has one.
+-- how many deliveries are of packets that had been delivered before
+abbrev pub repeats_of : List Moment → ℕ
+repeats_of [] = 0
+repeats_of (m ∷ earlier) = (if list_any (λ e. e.tag == m.tag) earlier then 1 else 0) + repeats_of earlier
+
+-- the packets that came and aren't the board's
+abbrev pub strays_of : List Step → List (List ℕ)
+strays_of [] = []
+strays_of (stray packet ∷ earlier) = packet ∷ strays_of earlier
+strays_of (_ ∷ earlier) = strays_of earlier
+
+-- another process sent it
+abbrev pub is_of_another : Reception → Bool
+is_of_another (foreign apid) = true
+is_of_another _ = false
+
+-- its type isn't known
+abbrev pub is_of_no_type : Reception → Bool
+is_of_no_type (skipped service subtype) = true
+is_of_no_type _ = false
+
+-- What is counted is so in a world: repeats are of packets that had been delivered before, packets of another process or of no known type are those that aren't the board's, and there are no others.
+pub record AreTrueCounts (w : World) (kinds : List GotKind) : Type 0 where
+  pub repeats : count_by is_repeat kinds ≡ repeats_of (deliveries_of w.steps)
+  pub foreign : count_by is_foreign kinds ≡ count_by (λ packet. is_of_another (w.session.protocol.reception packet)) (strays_of w.steps)
+  pub skipped : count_by is_skipped kinds ≡ count_by (λ packet. is_of_no_type (w.session.protocol.reception packet)) (strays_of w.steps)
+  pub conflicts : count_by is_conflict kinds ≡ 0
+  pub unread : count_by is_unread kinds ≡ 0
+  pub stray : count_by is_stray kinds ≡ 0
+
+-- A text is true in a world: it is blocks in the order of tags and then counts, each block is true, each report that was delivered and has a block has one, and what is counted is so.
 pub record IsTrueText (w : World) (text : List ℕ) : Type 0 where
   pub blocks : List Block
   pub kinds : List GotKind
@@ -112,3 +175,34 @@ pub record IsTrueText (w : World) (text : List ℕ) : Type 0 where
   pub order : HaveRisingTags blocks
   pub each : AllByRecursion (IsTrueBlock w) blocks
   pub complete : HasEachReport w blocks
+  pub counts : AreTrueCounts w kinds
+
+-- no two blocks have one tag
+abbrev pub HaveDistinctTags : List Block → Type 0
+HaveDistinctTags [] = ⊤
+HaveDistinctTags (b ∷ bs) = AllByRecursion (λ other. block_tag b ≢ block_tag other) bs × HaveDistinctTags bs
+
+-- What was written so far is true in a world: it is blocks, each of another report, and each is true.
+pub record IsTrueSoFar (w : World) (text : List ℕ) : Type 0 where
+  pub blocks : List Block
+  pub lines : text ≡ flat_map (block_lines (tailoring w.session)) blocks
+  pub once : HaveDistinctTags blocks
+  pub each : AllByRecursion (IsTrueBlock w) blocks
+
+-- A text whose blocks were written as they were decided is true in a world: it is blocks, each of another report, and then counts, each block is true, each report that was delivered and has a block has one, and what is counted is so.
+pub record IsTrueFollowing (w : World) (text : List ℕ) : Type 0 where
+  pub blocks : List Block
+  pub kinds : List GotKind
+  pub lines : text ≡ flat_map (block_lines (tailoring w.session)) blocks ++ count_lines kinds
+  pub once : HaveDistinctTags blocks
+  pub each : AllByRecursion (IsTrueBlock w) blocks
+  pub complete : HasEachReport w blocks
+  pub counts : AreTrueCounts w kinds
+
+-- the entries of a record are those of a world: what was sent and what was received, in their order
+abbrev pub IsSeenIn : World → Header → List Entry → Type 0
+IsSeenIn w h entries = (h.known ≡ w.session.known) × (h.long ≡ w.session.long) × (seen entries ≡ entries_seen w.session.requests w.steps)
+
+-- what became of each packet that was received in a world, the newest first
+abbrev pub kinds_in : World → List GotKind
+kinds_in w = kinds_of w.session.protocol (header_of w.session.known w.session.long) (entries_seen w.session.requests w.steps)

@@ -4,5 +4,5 @@
 mod laws;
 mod problem;
 
-pub use laws::empty_records;
+pub use laws::{empty_records, entries_come_one_by_one, texts_are_true};
 pub use problem::{RecordProblem, Tally};

@@ -1,0 +1,127 @@
+-- What stands for the entries of a session: what is known, what became of packets that weren't kept, and how many entries there were.
+use Rattle.std.specs.Prelude.{ℕ, ◌+◌, ◌≤◌, List, [], ◌++◌, length, flat_map, codes, Bool, Option, Some, None, Result, Ok, Err}
+use Rattle.std.specs.List.{count_by, sum_by}
+use Rattle.hk_base.specs.TailoringParts.{TailoringParts}
+use Rattle.pus_messages.specs.Messages.{protocol}
+use Rattle.ground_history.specs.Histories.{History, new_history, sent_answer, got_kind, history_with_sent, history_with_got}
+use Rattle.ground_history.specs.Ground.{Ground}
+use Rattle.ground_history.specs.declared.answer.GotKind.{GotKind}
+use Rattle.ground_history.specs.declared.answer.GotKind.TheVariants as became
+use Rattle.ground_history.specs.declared.answer.SentFault.{SentFault}
+use Rattle.session_record.specs.declared.entry.Entry.{Entry}
+use Rattle.session_record.specs.declared.entry.Entry.TheVariants.{Sent, Got, Line}
+use Rattle.session_texts.specs.Blocks.{block}
+use Rattle.session_texts.specs.Texts.{count_line}
+use Rattle.session_texts.specs.Tallies.{verdicts, value_count, is_undecidable, is_other}
+use Rattle.session_texts.specs.Follow.{is_decision}
+use Rattle.session_texts.specs.declared.problem.Tally.{Tally}
+use Rattle.decommutator.specs.declared.counts.Counts.{Counts}
+
+-- What stands for entries: the tailoring, what is known under it, the counts of packets that weren't kept, and the number of entries.
+pub record Standing : Type 0 where
+  pub tailoring : TailoringParts
+  pub history : History
+  pub counts : Counts
+  pub entries : ℕ
+
+-- What contracts see: what stands for the entries; and, as long as each entry was followed, the tags of the kept reports whose blocks
+-- aren't written, in order.
+pub record Decommutation : Type 0 where
+  pub standing : Standing
+  pub waiting : Option (List ℕ)
+
+-- no packet was received
+abbrev pub no_counts : Counts
+no_counts = record { repeats = 0; conflicts = 0; foreign = 0; skipped = 0; unread = 0; stray = 0 }
+
+-- how many packets weren't kept
+abbrev pub total : Counts → ℕ
+total c = c.repeats + (c.conflicts + (c.foreign + (c.skipped + (c.unread + c.stray))))
+
+-- counts with one more packet, by what became of it
+abbrev pub with_kind : Counts → GotKind → Counts
+with_kind c (became.Kept tag) = c
+with_kind c (became.Repeat tag) = record c { repeats = c.repeats + 1 }
+with_kind c (became.Conflict tag) = record c { conflicts = c.conflicts + 1 }
+with_kind c (became.Foreign apid) = record c { foreign = c.foreign + 1 }
+with_kind c (became.Skipped service subtype) = record c { skipped = c.skipped + 1 }
+with_kind c became.Unread = record c { unread = c.unread + 1 }
+with_kind c (became.Stray id) = record c { stray = c.stray + 1 }
+
+-- the ground by what stands for entries
+abbrev pub ground_of : Standing → Ground
+ground_of s = record { tailoring = s.tailoring; history = s.history }
+
+-- what stands for no entries
+abbrev pub new_standing : TailoringParts → Bool → Bool → Standing
+new_standing t known long = record { tailoring = t; history = new_history known long; counts = no_counts; entries = 0 }
+
+-- what stands for one more entry: a packet that was sent, one that was received, or a line of the journal, which is skipped
+abbrev pub with_entry : Standing → Entry → Standing
+with_entry s (Sent packet) =
+    record s {
+      history = history_with_sent (protocol s.tailoring) s.history packet (sent_answer (protocol s.tailoring) s.history packet);
+      entries = s.entries + 1;
+    }
+with_entry s (Got packet) =
+    record s {
+      history = history_with_got s.history packet ((protocol s.tailoring).reception packet);
+      counts = with_kind s.counts (got_kind (protocol s.tailoring) s.history packet);
+      entries = s.entries + 1;
+    }
+with_entry s (Line text) = record s { entries = s.entries + 1 }
+
+-- whether a packet can be sent
+abbrev pub taken : Result Bool SentFault → Result Unit SentFault
+taken (Ok new) = Ok tt
+taken (Err fault) = Err fault
+
+-- whether an entry can be taken after others
+abbrev pub entry_answer : Standing → Entry → Result Unit SentFault
+entry_answer s (Sent packet) = taken (sent_answer (protocol s.tailoring) s.history packet)
+entry_answer s (Got packet) = Ok tt
+entry_answer s (Line text) = Ok tt
+
+-- what stands after an entry that was so answered: a refusal changes nothing
+abbrev pub after_entry : Standing → Entry → Result Unit SentFault → Standing
+after_entry s e (Ok done) = with_entry s e
+after_entry s e (Err fault) = s
+
+-- no entry is followed any more, after one was taken and not followed
+abbrev pub after_unfollowed : Option (List ℕ) → Result Unit SentFault → Option (List ℕ)
+after_unfollowed waiting (Ok done) = None
+after_unfollowed waiting (Err fault) = waiting
+
+-- each entry is at most one request, kept packet or counted packet
+abbrev pub IsOrderly : Standing → Type 0
+IsOrderly s = length s.history.requests + (length s.history.kept + total s.counts) ≤ s.entries
+
+-- the counts of packets that weren't kept, as lines
+abbrev pub count_text : Counts → List ℕ
+count_text c =
+    count_line (codes "repeats") c.repeats
+    ++ (count_line (codes "conflicts") c.conflicts
+    ++ (count_line (codes "foreign") c.foreign
+    ++ (count_line (codes "skipped") c.skipped ++ (count_line (codes "unread") c.unread ++ count_line (codes "stray") c.stray))))
+
+-- the blocks of the kept reports in the order of tags
+abbrev pub standing_blocks : Standing → List ℕ
+standing_blocks s = flat_map (block s.tailoring s.history) s.history.kept
+
+-- the whole text: the blocks, and then the counts
+abbrev pub standing_text : Standing → List ℕ
+standing_text s = standing_blocks s ++ count_text s.counts
+
+-- the numbers
+abbrev pub standing_tally : Standing → Tally
+standing_tally s =
+    let all = verdicts s.tailoring s.history in
+    record {
+      sent = length s.history.requests;
+      received = length s.history.kept;
+      repeats = s.counts.repeats;
+      decided = count_by (λ v. is_decision v.1) all;
+      undecidable = count_by (λ v. is_undecidable v.1) all;
+      other = count_by (λ v. is_other v.1) all;
+      values = sum_by (value_count s.tailoring) all;
+    }

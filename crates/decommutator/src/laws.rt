@@ -1,0 +1,19 @@
+//! What the definitions promise.
+ghost use Rattle.std.specs.Prelude.{◌≡◌, [], ◌∷◌, ◌++◌, List};
+ghost use Rattle.hk_base.specs.TailoringParts.{TailoringParts};
+ghost use Rattle.pus_messages.specs.Messages.{protocol};
+ghost use Rattle.session_record.specs.declared.header.Header.{Header};
+ghost use Rattle.session_record.specs.declared.entry.Entry.{Entry};
+ghost use Rattle.session_texts.specs.Texts.{text};
+ghost use Rattle.session_texts.specs.Tallies.{tally};
+ghost use Rattle.decommutator.specs.Standing.{new_standing, with_entry, standing_text, standing_tally};
+ghost use Rattle.decommutator.specs.Entries.{standing_of};
+
+/// What stands for no entries is what there is at the start, each entry leads on to what stands for the entries with it, and
+/// text and numbers are those of the entries.
+pub fn entries_stand()
+    ensures first { (t : TailoringParts) (h : Header) → standing_of t h [] ≡ new_standing t h.known h.long }
+    ensures next { (t : TailoringParts) (h : Header) (entries : List Entry) (e : Entry) → with_entry (standing_of t h entries) e ≡ standing_of t h (entries ++ e ∷ []) }
+    ensures text { (t : TailoringParts) (h : Header) (entries : List Entry) → standing_text (standing_of t h entries) ≡ text (protocol t) h entries }
+    ensures tally { (t : TailoringParts) (h : Header) (entries : List Entry) → standing_tally (standing_of t h entries) ≡ tally (protocol t) h entries }
+{}

@@ -1,0 +1,8 @@
+use Rattle.session_texts.proofs.TruthLemmas.{texts_true, known_texts}
+use Rattle.session_texts.proofs.laws.texts_are_true.Goals as goal
+
+pub returns-clause-entries : goal.returns-clause-entries
+returns-clause-entries c = texts_true
+
+pub returns-clause-known : goal.returns-clause-known
+returns-clause-known c = known_texts

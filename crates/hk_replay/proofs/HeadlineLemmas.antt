@@ -4,15 +4,14 @@ use Rattle.std.specs.Prelude.{option_map}
 use Rattle.std.specs.Option.{option_or}
 use Rattle.hk_base.specs.TailoringParts.{TailoringParts}
 use Rattle.pus_messages.specs.Messages.{protocol}
-use Rattle.session_record.specs.Records.{Entries, header_of}
+use Rattle.session_record.specs.Records.{Entries}
 use Rattle.session_record.specs.declared.header.Header.{Header}
 use Rattle.session_record.specs.declared.entry.Entry.{Entry}
 use Rattle.session_record.specs.declared.entry.RecordFault.{RecordFault}
-use Rattle.hk_world.specs.Timelines.{tailoring}
-use Rattle.hk_world.specs.Worlds.{World, IsWorld, entries_seen}
-use Rattle.session_texts.specs.Sessions.{seen, entries_problem, problem_of}
+use Rattle.hk_world.specs.Worlds.{World}
+use Rattle.session_texts.specs.Sessions.{entries_problem, problem_of}
 use Rattle.session_texts.specs.Texts.{text}
-use Rattle.session_texts.specs.Truth.{IsTrueText}
+use Rattle.session_texts.specs.Truth.{IsSeenIn, IsTrueText}
 use Rattle.session_texts.specs.declared.problem.RecordProblem.{RecordProblem}
 use Rattle.hk_replay.specs.Outcomes.{Outcome, written, unless_problem, session_text, replay_outcome}
 use Rattle.hk_replay.specs.Words.{Command, RecordCommand, on_record, replay, show, encode, check, trim}
@@ -26,27 +25,17 @@ use Rattle.hk_replay.specs.declared.status.ReplayStatus.TheVariants.{Done, Usage
 abbrev held : List (ℕ × Entry) → List Entry
 held entries = map (λ (e : ℕ × Entry). e.1) entries
 
--- the header of a world's record
-abbrev header_in : World → Header
-header_in w = header_of w.session.known w.session.long
+-- What is promised of the record of a world under a tailoring: no entry is a problem, and the text is true.
+pub record IsTold (t : TailoringParts) (w : World) : Type 0 where
+  pub taken : (h : Header) (entries : List (ℕ × Entry)) → IsSeenIn w h (held entries) → entries_problem (protocol t) h [] entries ≡ None
+  pub is_true : (h : Header) (entries : List Entry) → IsSeenIn w h entries → IsTrueText w (text (protocol t) h entries)
 
--- What is promised of the record of a world: no entry is a problem, and the text is true.
-pub record IsTold (w : World) : Type 0 where
-  pub taken : (entries : List (ℕ × Entry)) → seen (held entries) ≡ entries_seen w.session.requests w.steps
-      → entries_problem (protocol (tailoring w.session)) (header_in w) [] entries ≡ None
-  pub is_true : (entries : List Entry) → seen entries ≡ entries_seen w.session.requests w.steps
-      → IsTrueText w (text (protocol (tailoring w.session)) (header_in w) entries)
-
--- the text of a world's record
-abbrev text_in : World → List (ℕ × Entry) → List ℕ
-text_in w entries = text (protocol (tailoring w.session)) (header_in w) (held entries)
-
-world_outcome : (w : World) (octets : List ℕ) (is : IsRecordOf w octets) → IsTold w → replay_outcome (tailoring w.session) octets ≡ written (text_in w is.entries)
+world_outcome : (t : TailoringParts) (w : World) (octets : List ℕ) (is : IsRecordOf w octets) → IsTold t w → replay_outcome t octets ≡ written (text (protocol t) is.header (held is.entries))
 unfolding replay_outcome
-world_outcome w octets is told =
-    let p = protocol (tailoring w.session) in
+world_outcome t w octets is told =
+    let p = protocol t in
     ap (λ (r : Result (Header × Entries) RecordFault). unless_problem (problem_of p r) (session_text p r)) is.record_is
-    ∙ ap (λ (o : Option RecordProblem). unless_problem (option_or o None) (text_in w is.entries)) (told.taken is.entries is.seen_are)
+    ∙ ap (λ (o : Option RecordProblem). unless_problem (option_or o None) (text p is.header (held is.entries))) (told.taken is.header is.entries is.seen_in)
 
 true_run_by : (w : World) (status : ReplayStatus) (text : List ℕ) (before after : Option (List ℕ)) → IsTrueText w text → HasOutput status (written text) before after → IsTrueRun w status before after
 true_run_by w Done text before after is h = (text, is, h)
@@ -71,7 +60,7 @@ replay_tells (Some (on_record replay tailoring name)) files t octets r = (Ok t, 
 -- what a run writes is true of the world whose record it replays
 pub true_words : (command : Option Command) (files : Option (List (List ℕ × List ℕ))) (status : ReplayStatus) (before after : Option (List ℕ))
     → ((outcome : Outcome) → TellsOf files command outcome → HasOutput status outcome before after)
-    → (w : World) → IsTold w → (octets : List ℕ) → Replays files command (tailoring w.session) octets → IsRecordOf w octets → IsTrueRun w status before after
-true_words command files status before after tells w told octets r is =
-    true_run_by w status (text_in w is.entries) before after (told.is_true (held is.entries) is.seen_are)
-    (subst (λ (o : Outcome). HasOutput status o before after) (world_outcome w octets is told) (tells (replay_outcome (tailoring w.session) octets) (replay_tells command files (tailoring w.session) octets r)))
+    → (t : TailoringParts) (w : World) → IsTold t w → (octets : List ℕ) → Replays files command t octets → IsRecordOf w octets → IsTrueRun w status before after
+true_words command files status before after tells t w told octets r is =
+    true_run_by w status (text (protocol t) is.header (held is.entries)) before after (told.is_true is.header (held is.entries) is.seen_in)
+    (subst (λ (o : Outcome). HasOutput status o before after) (world_outcome t w octets is told) (tells (replay_outcome t octets) (replay_tells command files t octets r)))

@@ -10,8 +10,6 @@ mod tailorings;
 mod tests;
 #[cfg(test)]
 mod tests_below;
-#[cfg(test)]
-mod tests_entries;
 mod words;
 
 use crate::outside::{FileShelf, OutSink};

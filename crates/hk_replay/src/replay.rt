@@ -5,7 +5,6 @@ ghost use Rattle.hk_base.specs.Outside.{HasRisen};
 ghost use Rattle.hk_base.specs.TailoringParts.{TailoringParts};
 ghost use Rattle.hk_tailoring.specs.declared.fault.TailoringFault.{TailoringFault};
 ghost use Rattle.pus_messages.specs.Messages.{protocol};
-ghost use Rattle.hk_world.specs.Timelines.{tailoring};
 ghost use Rattle.hk_world.specs.Worlds.{World, IsWorld};
 ghost use Rattle.hk_replay.specs.Truth.{IsRecordOf, IsTrueRun};
 ghost use Rattle.hk_replay.specs.Words.{command_of};
@@ -47,7 +46,7 @@ pub fn replay_main<F: Shelf, K: Sink>(
     ensures room { (outcome : Outcome) → TellsOf (F.files shelf.old) (command_of (map string_bytes words.now)) outcome → IfSome (K.room sink.old) (λ room. length (outcome_text outcome) ≤ room → K.faults sink.new ≡ K.faults sink.old) }
 
     // The headline: on the record of a world, whatever of it was lost, delayed, repeated or reordered, the text is true of what the board did there.
-    ensures headline { (w : World) → IsWorld w → w.session.protocol ≡ protocol (tailoring w.session) → (octets : List ℕ) → Replays (F.files shelf.old) (command_of (map string_bytes words.now)) (tailoring w.session) octets → IsRecordOf w octets → IsTrueRun w result (K.taken sink.old) (K.taken sink.new) }
+    ensures headline { (w : World) → IsWorld w → (t : TailoringParts) → w.session.protocol ≡ protocol t → (octets : List ℕ) → Replays (F.files shelf.old) (command_of (map string_bytes words.now)) t octets → IsRecordOf w octets → IsTrueRun w result (K.taken sink.old) (K.taken sink.new) }
 {
     run(alloc, words, shelf, sink)
 }

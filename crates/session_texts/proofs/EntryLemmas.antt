@@ -14,7 +14,7 @@ use Rattle.session_texts.specs.Sessions.{seen_entry, seen, known_after, known_wi
 use Rattle.session_texts.specs.declared.problem.RecordProblem.{RecordProblem}
 
 -- what is seen with one entry more
-abbrev seen_with : Option worlds.Entry → List worlds.Entry → List worlds.Entry
+abbrev pub seen_with : Option worlds.Entry → List worlds.Entry → List worlds.Entry
 seen_with None earlier = earlier
 seen_with (Some e) earlier = e ∷ earlier
 

@@ -5,3 +5,8 @@ pub mod KeptFacts
 pub mod CountFacts
 pub mod NamingLemmas
 pub mod TruthLemmas
+pub mod ProblemLemmas
+pub mod LaterFacts
+pub mod FollowLemmas
+pub mod SettledLemmas
+pub mod ExampleText

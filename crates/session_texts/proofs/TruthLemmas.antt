@@ -157,7 +157,7 @@ all-blocks t h P Q f (k ∷ ks) all = go (block_of t h k) refl (all-blocks t h P
     go (Some b) p rest = (f k b p all.0, rest)
 
 -- blocks stand as the kept packets do
-rising-blocks : (t : TailoringParts) (h : History) (ks : List Kept) → AreRising ks → HaveRisingTags (blocks_of t h ks)
+pub rising-blocks : (t : TailoringParts) (h : History) (ks : List Kept) → AreRising ks → HaveRisingTags (blocks_of t h ks)
 rising-blocks t h [] rising = tt
 rising-blocks t h (k ∷ ks) rising = go (block_of t h k) refl (rising-blocks t h ks rising.1)
   where

@@ -4,5 +4,8 @@
 mod laws;
 mod problem;
 
-pub use laws::{empty_records, entries_come_one_by_one, texts_are_true};
+pub use laws::{
+    empty_records, entries_come_one_by_one, followed_lines_are_true,
+    records_of_worlds_have_no_problem, texts_are_true,
+};
 pub use problem::{RecordProblem, Tally};

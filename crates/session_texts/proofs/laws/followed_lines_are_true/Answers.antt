@@ -1,0 +1,8 @@
+use Rattle.session_texts.proofs.FollowLemmas.{follow_true, follow_so_far}
+use Rattle.session_texts.proofs.laws.followed_lines_are_true.Goals as goal
+
+pub returns-clause-whole : goal.returns-clause-whole
+returns-clause-whole c = follow_true
+
+pub returns-clause-so_far : goal.returns-clause-so_far
+returns-clause-so_far c = follow_so_far

@@ -11,6 +11,7 @@ use Rattle.session_record.specs.declared.entry.RecordFault.{RecordFault}
 use Rattle.session_record.specs.declared.entry.RecordFault.TheVariants.{BadMagic, BadKind, Cut, TooLong, TooManyEntries, ReadFault, Memory}
 use Rattle.session_texts.specs.declared.problem.RecordProblem.TheVariants as problem
 use Rattle.decommutator.specs.Standing.{Standing, new_standing, with_entry, entry_answer, standing_text}
+use Rattle.ground_history.specs.declared.answer.SentFault.{SentFault}
 use Rattle.hk_replay.specs.Faults.{status_of_fault}
 use Rattle.hk_replay.specs.Outcomes.{Outcome, written, stopped, replay_outcome}
 use Rattle.hk_replay.specs.Replay.{EndsWith, ReadsTo}

@@ -1,5 +1,5 @@
 //! The session of a record: all of it is read, and then its text is written.
-ghost use Rattle.std.specs.Prelude.{◌≡◌, ◌+◌, ◌≤◌, length, IfSome, IsErrOf, IsSome, OnOk};
+ghost use Rattle.std.specs.Prelude.{◌≡◌, ◌+◌, ◌<◌, ◌≤◌, ◌^◌, length, IfSome, IsErrOf, IsSome};
 ghost use Rattle.hk_base.specs.Outside.{HasRisen};
 ghost use Rattle.session_record.specs.Records.{held_octets, most_entries};
 ghost use Rattle.session_record.specs.Reading.{to_come};

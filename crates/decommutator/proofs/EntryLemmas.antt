@@ -16,9 +16,10 @@ use Rattle.session_record.specs.declared.entry.Entry.{Entry}
 use Rattle.session_record.specs.declared.entry.Entry.TheVariants.{Sent, Got, Line}
 use Rattle.session_texts.specs.Sessions.{seen_entry, seen, kinds_of}
 use Rattle.session_texts.specs.Texts.{is_repeat, is_conflict, is_foreign, is_skipped, is_unread, is_stray}
-use Rattle.decommutator.specs.declared.counts.Counts.{Counts}
+use Rattle.block_lines.specs.declared.counts.Counts.{Counts}
+use Rattle.block_lines.specs.Counts.{counts_of}
 use Rattle.decommutator.specs.Standing.{Standing, with_kind, with_entry}
-use Rattle.decommutator.specs.Entries.{counts_of, standing_of}
+use Rattle.decommutator.specs.Entries.{standing_of}
 
 -- what is seen with one entry more
 abbrev seen_with : Option worlds.Entry → List worlds.Entry → List worlds.Entry

@@ -1,28 +1,15 @@
--- What stands for a list of entries, which are in the order of the record.
-use Rattle.std.specs.Prelude.{◌≡◌, ℕ, List, [], ◌∷◌, ◌++◌, length}
-use Rattle.std.specs.List.{count_by}
+-- What stands for a list of entries, which are in the order of the record, and for those of a world.
+use Rattle.std.specs.Prelude.{◌≡◌, List, length}
 use Rattle.hk_base.specs.TailoringParts.{TailoringParts}
 use Rattle.pus_messages.specs.Messages.{protocol}
-use Rattle.ground_history.specs.declared.answer.GotKind.{GotKind}
+use Rattle.hk_world.specs.Worlds.{World, IsWorld}
+use Rattle.ground_history.specs.Bounds.{history_in}
 use Rattle.session_record.specs.declared.header.Header.{Header}
 use Rattle.session_record.specs.declared.entry.Entry.{Entry}
 use Rattle.session_texts.specs.Sessions.{known_after, kinds_after}
-use Rattle.session_texts.specs.Texts.{text, is_repeat, is_conflict, is_foreign, is_skipped, is_unread, is_stray}
-use Rattle.session_texts.specs.Tallies.{tally}
-use Rattle.decommutator.specs.declared.counts.Counts.{Counts}
-use Rattle.decommutator.specs.Standing.{Standing, new_standing, with_entry, standing_text, standing_tally}
-
--- how many packets weren't kept, by what became of each
-abbrev pub counts_of : List GotKind → Counts
-counts_of kinds =
-    record {
-      repeats = count_by is_repeat kinds;
-      conflicts = count_by is_conflict kinds;
-      foreign = count_by is_foreign kinds;
-      skipped = count_by is_skipped kinds;
-      unread = count_by is_unread kinds;
-      stray = count_by is_stray kinds;
-    }
+use Rattle.session_texts.specs.Truth.{kinds_in}
+use Rattle.block_lines.specs.Counts.{counts_of}
+use Rattle.decommutator.specs.Standing.{Standing}
 
 -- what stands for entries
 abbrev pub standing_of : TailoringParts → Header → List Entry → Standing
@@ -33,3 +20,10 @@ standing_of t h entries =
       counts = counts_of (kinds_after (protocol t) h entries);
       entries = length entries;
     }
+
+-- What is known, and what became of packets, is what the ground knows in a world of the tailoring.
+pub record IsStandingIn (w : World) (s : Standing) : Type 0 where
+  pub world : IsWorld w
+  pub tailoring : w.session.protocol ≡ protocol s.tailoring
+  pub history : s.history ≡ history_in w
+  pub counts : s.counts ≡ counts_of (kinds_in w)

@@ -1,21 +1,22 @@
 -- What stands for the entries of a session: what is known, what became of packets that weren't kept, and how many entries there were.
-use Rattle.std.specs.Prelude.{ℕ, ◌+◌, ◌≤◌, List, [], ◌++◌, length, flat_map, codes, Bool, Option, Some, None, Result, Ok, Err}
+use Rattle.std.specs.Prelude.{ℕ, ◌+◌, ◌≤◌, List, [], ◌++◌, length, flat_map, Bool, Option, Some, None, Result, Ok, Err}
 use Rattle.std.specs.List.{count_by, sum_by}
 use Rattle.hk_base.specs.TailoringParts.{TailoringParts}
 use Rattle.pus_messages.specs.Messages.{protocol}
-use Rattle.ground_history.specs.Histories.{History, new_history, sent_answer, got_kind, history_with_sent, history_with_got}
-use Rattle.ground_history.specs.Ground.{Ground}
+use Rattle.ground_history.specs.Histories.{History, new_history, sent_answer, got_kind}
+use Rattle.ground_history.specs.Ground.{Ground, with_history}
 use Rattle.ground_history.specs.declared.answer.GotKind.{GotKind}
 use Rattle.ground_history.specs.declared.answer.GotKind.TheVariants as became
 use Rattle.ground_history.specs.declared.answer.SentFault.{SentFault}
 use Rattle.session_record.specs.declared.entry.Entry.{Entry}
 use Rattle.session_record.specs.declared.entry.Entry.TheVariants.{Sent, Got, Line}
+use Rattle.session_texts.specs.Sessions.{known_with}
 use Rattle.session_texts.specs.Blocks.{block}
-use Rattle.session_texts.specs.Texts.{count_line}
 use Rattle.session_texts.specs.Tallies.{verdicts, value_count, is_undecidable, is_other}
 use Rattle.session_texts.specs.Follow.{is_decision}
 use Rattle.session_texts.specs.declared.problem.Tally.{Tally}
-use Rattle.decommutator.specs.declared.counts.Counts.{Counts}
+use Rattle.block_lines.specs.declared.counts.Counts.{Counts}
+use Rattle.block_lines.specs.Counts.{lines_of}
 
 -- What stands for entries: the tailoring, what is known under it, the counts of packets that weren't kept, and the number of entries.
 pub record Standing : Type 0 where
@@ -56,31 +57,41 @@ ground_of s = record { tailoring = s.tailoring; history = s.history }
 abbrev pub new_standing : TailoringParts → Bool → Bool → Standing
 new_standing t known long = record { tailoring = t; history = new_history known long; counts = no_counts; entries = 0 }
 
--- what stands for one more entry: a packet that was sent, one that was received, or a line of the journal, which is skipped
+-- counts with one more entry
+abbrev pub counts_with : Ground → Counts → Entry → Counts
+counts_with g c (Sent packet) = c
+counts_with g c (Got packet) = with_kind c (got_kind (protocol g.tailoring) g.history packet)
+counts_with g c (Line text) = c
+
+-- what stands for one more entry
 abbrev pub with_entry : Standing → Entry → Standing
-with_entry s (Sent packet) =
-    record s {
-      history = history_with_sent (protocol s.tailoring) s.history packet (sent_answer (protocol s.tailoring) s.history packet);
-      entries = s.entries + 1;
-    }
-with_entry s (Got packet) =
-    record s {
-      history = history_with_got s.history packet ((protocol s.tailoring).reception packet);
-      counts = with_kind s.counts (got_kind (protocol s.tailoring) s.history packet);
-      entries = s.entries + 1;
-    }
-with_entry s (Line text) = record s { entries = s.entries + 1 }
+with_entry s e =
+    record s { history = known_with (protocol s.tailoring) s.history e; counts = counts_with (ground_of s) s.counts e; entries = s.entries + 1 }
 
 -- whether a packet can be sent
 abbrev pub taken : Result Bool SentFault → Result Unit SentFault
 taken (Ok new) = Ok tt
 taken (Err fault) = Err fault
 
+-- whether an entry can be taken after what is known
+abbrev pub answer_of : Ground → Entry → Result Unit SentFault
+answer_of g (Sent packet) = taken (sent_answer (protocol g.tailoring) g.history packet)
+answer_of g (Got packet) = Ok tt
+answer_of g (Line text) = Ok tt
+
 -- whether an entry can be taken after others
 abbrev pub entry_answer : Standing → Entry → Result Unit SentFault
-entry_answer s (Sent packet) = taken (sent_answer (protocol s.tailoring) s.history packet)
-entry_answer s (Got packet) = Ok tt
-entry_answer s (Line text) = Ok tt
+entry_answer s e = answer_of (ground_of s) e
+
+-- what is known after an entry that was so answered: a refusal changes nothing
+abbrev pub ground_after : Ground → Entry → Result Unit SentFault → Ground
+ground_after g e (Ok done) = with_history g (known_with (protocol g.tailoring) g.history e)
+ground_after g e (Err fault) = g
+
+-- the counts after an entry that was so answered
+abbrev pub counts_after : Ground → Counts → Entry → Result Unit SentFault → Counts
+counts_after g c e (Ok done) = counts_with g c e
+counts_after g c e (Err fault) = c
 
 -- what stands after an entry that was so answered: a refusal changes nothing
 abbrev pub after_entry : Standing → Entry → Result Unit SentFault → Standing
@@ -96,21 +107,13 @@ after_unfollowed waiting (Err fault) = waiting
 abbrev pub IsOrderly : Standing → Type 0
 IsOrderly s = length s.history.requests + (length s.history.kept + total s.counts) ≤ s.entries
 
--- the counts of packets that weren't kept, as lines
-abbrev pub count_text : Counts → List ℕ
-count_text c =
-    count_line (codes "repeats") c.repeats
-    ++ (count_line (codes "conflicts") c.conflicts
-    ++ (count_line (codes "foreign") c.foreign
-    ++ (count_line (codes "skipped") c.skipped ++ (count_line (codes "unread") c.unread ++ count_line (codes "stray") c.stray))))
-
 -- the blocks of the kept reports in the order of tags
 abbrev pub standing_blocks : Standing → List ℕ
 standing_blocks s = flat_map (block s.tailoring s.history) s.history.kept
 
 -- the whole text: the blocks, and then the counts
 abbrev pub standing_text : Standing → List ℕ
-standing_text s = standing_blocks s ++ count_text s.counts
+standing_text s = standing_blocks s ++ lines_of s.counts
 
 -- the numbers
 abbrev pub standing_tally : Standing → Tally

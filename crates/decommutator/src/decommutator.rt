@@ -6,7 +6,9 @@ ghost use Rattle.session_record.specs.Writing.{Writes};
 ghost use Rattle.decommutator.specs.Standing.{new_standing, entry_answer, after_entry, after_unfollowed, ground_of, standing_text, standing_tally};
 ghost use Rattle.decommutator.specs.Finishing.{FinishCounts, FinishesWithin};
 
-use crate::counts::Counts;
+use crate::counts::no_counts;
+use crate::taking::take;
+use block_lines::Counts;
 use ground_history::{History, SentFault};
 use hk_base::{Items, Memory, Sink, Tailoring};
 use session_record::{Entry, WriteFault};
@@ -43,7 +45,7 @@ impl Decommutator {
         Decommutator {
             alloc,
             history: History::new(alloc, tailoring, known, long),
-            counts: Counts::new(),
+            counts: no_counts(),
             entries: 0,
             waiting: Some(Items::from_vec(Vec::new(alloc))),
         }
@@ -57,9 +59,10 @@ impl Decommutator {
         ensures state { self.new.standing ≡ after_entry self.old.standing entry.now result }
         ensures waiting { self.new.waiting ≡ after_unfollowed self.old.waiting result }
     {
-        let _most = self.entries;
-        let _entry = entry;
-        Err(SentFault::Memory)
+        take(&mut self.history, &mut self.counts, entry)?;
+        self.entries += 1;
+        self.waiting = None;
+        Ok(())
     }
 
     /// The number of entries that were taken so far, skipped ones among them.

@@ -6,6 +6,7 @@ mod decommutator;
 mod fault;
 mod laws;
 mod row;
+mod taking;
 
 pub use decommutator::Decommutator;
 pub use fault::FollowFault;

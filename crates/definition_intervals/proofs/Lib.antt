@@ -15,6 +15,9 @@ pub mod NewestLemmas
 pub mod AgreementLemmas
 pub mod GatherLemmas
 pub mod VerdictLemmas
+pub mod BasisLemmas
+pub mod HeldLemmas
+pub mod FormedDecisions
 pub mod WorldContainment
 pub mod SoundLemmas
 pub mod NamesLemmas

@@ -135,7 +135,7 @@ next-formed t c s a g f i = go (next-cases t c s a i)
     go (inl p) = subst (λ x. IsFormedState t x) (sym p.1) f
     go (inr j) = agreed-formed t c c.outcome s a (effect t c.change s) g f refl j
 
-reachable-formed : (t : TailoringParts) (cs : List Candidate) (s a : Option Structure) → AllByRecursion (IsFormedCandidate t) cs → IsFormedState t s → IsIn a (reachable_states t cs s) → IsFormedState t a
+pub reachable-formed : (t : TailoringParts) (cs : List Candidate) (s a : Option Structure) → AllByRecursion (IsFormedCandidate t) cs → IsFormedState t s → IsIn a (reachable_states t cs s) → IsFormedState t a
 reachable-formed t [] s a g f (inl p) = subst (λ x. IsFormedState t x) (sym p) f
 reachable-formed t [] s a g f (inr i) = absurd i
 reachable-formed t (c ∷ cs) s a g f i =

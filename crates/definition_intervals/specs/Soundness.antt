@@ -2,7 +2,8 @@
 use Rattle.std.specs.Prelude.{⊤, ◌≡◌, ◌≢◌, ℕ, ◌-◌, ℤ, List, ◌++◌, map, zip, slice_get, Bool, true, ◌⊎◌, Some, Ok, IsTrue}
 use Rattle.std.specs.List.{AllByRecursion}
 use Rattle.hk_base.specs.TailoringParts.{TailoringParts}
-use Rattle.hk_base.specs.Fit.{slot_of}
+use Rattle.hk_base.specs.Fit.{slot_of, IsFit}
+use Rattle.hk_base.specs.Definitions.{IsWellFormed}
 use Rattle.hk_base.specs.Payload.{places, payload_read}
 use Rattle.hk_base.specs.declared.types.Key.{Key}
 use Rattle.hk_base.specs.declared.types.Place.{Place}
@@ -16,10 +17,11 @@ use Rattle.hk_world.specs.Timelines.{tailoring}
 use Rattle.hk_world.specs.Worlds.{World, Step, IsWorld, Entry, IsTrueValue, Reports, world_state_at}
 use Rattle.ground_history.specs.Histories.{History, Kept, tag_of, history_of}
 use Rattle.ground_history.specs.Bounds.{history_in}
+use Rattle.ground_history.specs.Ground.{Ground, IsGrounded}
 use Rattle.ground_history.specs.Evidence.{is_barred}
 use Rattle.definition_intervals.specs.Openings.{Opening, Candidate, openings, is_open, is_settled}
 use Rattle.definition_intervals.specs.States.{is_possible_from}
-use Rattle.definition_intervals.specs.Verdicts.{verdict}
+use Rattle.definition_intervals.specs.Verdicts.{verdict, explains}
 use Rattle.definition_intervals.specs.declared.answer.Verdict.{Verdict}
 use Rattle.definition_intervals.specs.declared.answer.Verdict.TheVariants.{Decided, Undecidable, Crowded, Impossible}
 
@@ -116,3 +118,10 @@ DecisionsPersist =
     → HasReport (history_in w) key tag payload
     → verdict_in w key tag payload ≡ Decided d
     → (verdict_in later key tag payload ≡ Decided d) ⊎ (IsNewlyBarred w later key tag × IsUnsure (verdict_in later key tag payload))
+
+-- By what is known of messages of the grammar, a decided definition is valid, its payload size aside, and a report with the tag can have the payload under it.
+abbrev pub DecisionsAreFormed : Type 0
+DecisionsAreFormed =
+    (g : Ground) (key : Key) (tag : ℕ) (payload : List ℕ) (d : Definition)
+    → IsFit g.tailoring → IsGrounded g → verdict g.tailoring g.history key tag payload ≡ Decided d
+    → IsWellFormed g.tailoring d × IsTrue (explains g.tailoring tag payload d)

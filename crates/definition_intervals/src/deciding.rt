@@ -1,22 +1,21 @@
-//! The verdict from the openings of a structure.
-ghost use Rattle.std.specs.Prelude.{◌≡◌, ◌≤◌, ℕ, [], Ok, IfOk, IfSome, All, length, filter_map, is_ok};
+//! The verdict from what the openings of a structure leave.
+ghost use Rattle.std.specs.Prelude.{◌≡◌, ◌≤◌, ℕ, List, [], Ok, IfOk, All, length, filter_map, is_ok};
 ghost use Rattle.std.specs.List.{cons_option};
 ghost use Rattle.std.specs.Option.{option_copied};
 ghost use Rattle.hk_base.specs.Definitions.{IsWellFormed};
 ghost use Rattle.report_structures.specs.Changes.{IsFormedState};
 ghost use Rattle.definition_intervals.specs.Verdicts as verdicts;
 ghost use Rattle.definition_intervals.specs.Verdicts.{verdict_by, verdict_of};
-ghost use Rattle.definition_intervals.specs.Findings as findings;
-ghost use Rattle.definition_intervals.specs.Findings.{IsFormedOpening, AreCommon, is_agreed};
+ghost use Rattle.definition_intervals.specs.Findings.{is_agreed};
+ghost use Rattle.definition_intervals.specs.Bases as bases;
+ghost use Rattle.definition_intervals.specs.Bases.{IsBasis, IsFormedBasis};
+ghost use Rattle.definition_intervals.specs.Openings.{Opening};
 
-use crate::answer::Verdict;
+use crate::answer::{Basis, Verdict};
 use crate::equality::is_same_definition;
-use crate::gathering::openings;
-use crate::naming::named_request;
-use crate::opening::Opening;
-use crate::states::{has_state, possible_states};
+use crate::narrowing::basis_at;
 use ground_history::History;
-use hk_base::{Definition, Items, Key, Memory, PayloadFault, Structure, Tailoring, slot_of};
+use hk_base::{Definition, Key, Memory, PayloadFault, Structure, Tailoring, slot_of};
 use sample_slots::read_payload;
 use std::alloc::Global;
 
@@ -32,85 +31,31 @@ pub fn verdict(
     ensures { IfOk result (λ verdict. verdict ≡ verdicts.verdict history.now.tailoring history.now.history key tag payload.now) }
 {
     let tailoring = history.tailoring();
-    let openings = openings(alloc, history, key, tag)?;
-    verdict_over(alloc, tailoring, tag, payload, openings.as_slice())
+    let basis = basis_at(alloc, history, key, tag)?;
+    verdict_on(alloc, tailoring, &basis, tag, payload)
 }
 
-/// The verdict on a report with this tag and payload, from all openings of its structure.
-pub fn verdict_over(
+/// The verdict on a report with this tag and payload, from the basis of verdicts on its structure's reports with the tag.
+pub fn verdict_on(
     alloc: Global,
     tailoring: &Tailoring,
+    basis: &Basis,
     tag: u64,
     payload: &[u8],
-    openings: &[Opening<'_>],
 ) -> Result<Verdict, Memory>
-    requires formed { All (IsFormedOpening tailoring.now) openings.now }
+    requires formed { IsFormedBasis tailoring.now basis.now }
     requires limit { length payload.now ≤ 2147483648 }
-    ensures { IfOk result (λ verdict. verdict ≡ verdict_of tailoring.now tag payload.now openings.now) }
+    ensures verdict { IfOk result (λ verdict. verdict ≡ bases.verdict_on tailoring.now tag payload.now basis.now) }
+    ensures of_openings { (os : List Opening) → IsBasis tailoring.now os basis.now → IfOk result (λ verdict. verdict ≡ verdict_of tailoring.now tag payload.now os) }
 {
-    if openings.is_empty() {
-        return Ok(Verdict::NoOpening);
-    }
-    let number = named_request(openings);
-    match common_states(alloc, tailoring, openings)? {
-        Some(states) => {
+    match basis {
+        Basis::NoOpening => Ok(Verdict::NoOpening),
+        Basis::Crowded(number) => Ok(Verdict::Crowded(*number)),
+        Basis::Open(states, number) => {
             let states = states.as_slice();
-            verdict_among(alloc, tailoring, tag, payload, states, number)
-        }
-        None => Ok(Verdict::Crowded(number)),
-    }
-}
-
-/// The states that are possible from each opening that isn't crowded, each once; None where all are crowded.
-fn common_states(
-    alloc: Global,
-    tailoring: &Tailoring,
-    openings: &[Opening<'_>],
-) -> Result<Option<Items<Option<Structure>>>, Memory>
-    requires { All (IsFormedOpening tailoring.now) openings.now }
-    ensures common { IfOk result (AreCommon tailoring.now openings.now) }
-    ensures formed { IfOk result (λ found. IfSome found (All (IsFormedState tailoring.now))) }
-{
-    let mut common = None;
-    for opening in openings {
-        let found = possible_states(alloc, tailoring, opening)?;
-        common = narrowed(alloc, common, found)?;
-    }
-    Ok(common)
-}
-
-/// What one more opening leaves of the states that are possible so far.
-fn narrowed(
-    alloc: Global,
-    common: Option<Items<Option<Structure>>>,
-    found: Option<Items<Option<Structure>>>,
-) -> Result<Option<Items<Option<Structure>>>, Memory>
-    ensures { IfOk result (λ left. left ≡ findings.narrowed common found) }
-{
-    let Some(found) = found else {
-        return Ok(common);
-    };
-    match common {
-        Some(states) => Ok(Some(shared_states(alloc, states, found.as_slice())?)),
-        None => Ok(Some(found)),
-    }
-}
-
-/// The states that are among others, too.
-fn shared_states(
-    alloc: Global,
-    states: Items<Option<Structure>>,
-    others: &[Option<Structure>],
-) -> Result<Items<Option<Structure>>, Memory>
-    ensures { IfOk result (λ shared. shared ≡ findings.shared_states states others.now) }
-{
-    let mut shared = Vec::new(alloc);
-    for state in states.into_vec() {
-        if has_state(others, state.as_ref()) {
-            shared.push(state)?;
+            verdict_among(alloc, tailoring, tag, payload, states, *number)
         }
     }
-    Ok(Items::from_vec(shared))
 }
 
 /// The verdict by the definitions of the states that explain the report.

@@ -10,6 +10,7 @@ use Rattle.hk_base.specs.declared.types.RequestId.{RequestId}
 use Rattle.hk_base.specs.declared.types.SuperList.{SuperList}
 use Rattle.hk_base.specs.declared.types.Definition.{Definition}
 use Rattle.hk_base.specs.declared.types.Boot.{Boot}
+use Rattle.pus_packet.specs.Joining.{id_of_packet}
 use Rattle.st01_reports.specs.declared.verification.Verification.{Verification}
 use Rattle.st01_reports.specs.declared.verification.Verification.TheVariants as verify
 use Rattle.st03_grammar.specs.Instructions.{key_of}
@@ -19,7 +20,6 @@ use Rattle.pus_messages.specs.Spelling.{request_octets, report_octets, report_ty
 use Rattle.pus_messages.specs.declared.message.RequestBody.TheVariants as ask
 use Rattle.pus_messages.specs.declared.message.ReportBody.{ReportBody}
 use Rattle.pus_messages.specs.declared.message.ReportBody.TheVariants as tell
-use Rattle.hk_world.specs.Honest.{id_of_packet}
 use Rattle.session_record.specs.declared.entry.Entry.{Entry}
 use Rattle.session_record.specs.declared.entry.Entry.TheVariants.{Sent, Got}
 
@@ -37,7 +37,7 @@ abbrev pub made_boot : ℕ → Boot
 made_boot s = boot Housekeeping s 4 true (numbers_from (6 * (s - 1) + 1) 6) (made_arrays s)
 
 -- the tailoring of the session
-abbrev pub made_tailoring : TailoringParts
+unfoldable pub made_tailoring : TailoringParts
 made_tailoring =
     record {
       widths = builtin_widths;
@@ -75,7 +75,7 @@ abbrev pub made_definition : ℕ → ℕ → Definition
 made_definition s round = record (made_boot s).structure.def { interval = interval_after s ((round + 15) / 16) }
 
 -- the packet of a report with a tag
-abbrev pub made_report : ℕ → ReportBody → List ℕ
+unfoldable pub made_report : ℕ → ReportBody → List ℕ
 made_report tag body =
     report_octets made_tailoring
     (record {
@@ -94,7 +94,7 @@ made_report tag body =
     })
 
 -- the payload of a structure's report in a round
-abbrev pub made_payload : ℕ → ℕ → ℕ → List ℕ
+unfoldable pub made_payload : ℕ → ℕ → ℕ → List ℕ
 made_payload seed s round = flat_map (λ p. octets_of 2 (made_sample seed p.param p.slot)) (places (made_definition s round) (4 * round + 3))
 
 -- the report of a structure in a round
@@ -102,7 +102,7 @@ abbrev pub structure_entry : ℕ → ℕ → ℕ → Entry
 structure_entry seed round s = Got (made_report (round_tag round + s) (tell.Hk (Values (key_of Housekeeping s) (made_payload seed s round))))
 
 -- the packet of a request
-abbrev pub made_request : ℕ → List ℕ
+unfoldable pub made_request : ℕ → List ℕ
 made_request q =
     request_octets made_tailoring
     (record {
@@ -143,10 +143,14 @@ abbrev pub late_entries : ℕ → ℕ → List Entry
 late_entries seed zero = []
 late_entries seed (suc round) = if round % 16 == 8 then structure_entry seed round 2 ∷ [] else []
 
+-- the entries that come in a round
+abbrev pub round_entries : ℕ → ℕ → List Entry
+round_entries seed round = round_reports seed round ++ (late_entries seed round ++ request_entries round)
+
 -- the entries of so many rounds
 abbrev pub rounds : ℕ → ℕ → List Entry
 rounds seed zero = []
-rounds seed (suc round) = rounds seed round ++ (round_reports seed round ++ (late_entries seed round ++ request_entries round))
+rounds seed (suc round) = rounds seed round ++ round_entries seed round
 
 -- the entries of the session
 abbrev pub generated : ℕ → ℕ → List Entry

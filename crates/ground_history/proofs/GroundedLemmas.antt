@@ -1,11 +1,10 @@
 -- What is known stays of the grammar, and in order.
-use Rattle.std.proofs.Common.{arith, ◌≡◌, ℕ, ◌<◌, ◌≤◌, refl, sym, subst, List, [], ◌∷◌, ◌++◌, map, Bool, true, false, cond, Some, None}
+use Rattle.std.proofs.Common.{arith, ◌≡◌, ◌<◌, ◌≤◌, refl, sym, subst, List, [], ◌∷◌, ◌++◌, map, Bool, true, false, cond, Some, None}
 use Rattle.std.proofs.lemmas.Bool.{ltb-true, ltb-false, eqb-false}
 use Rattle.std.specs.Prelude.{nat_lt, find, ◌==◌, if◌then◌else◌}
 use Rattle.std.specs.List.{AllByRecursion}
-use Rattle.hk_base.specs.TailoringParts.{TailoringParts}
 use Rattle.hk_base.proofs.Membership.{AllByRecursion-append}
-use Rattle.pus_messages.specs.Spelling.{IsReport}
+use Rattle.pus_messages.specs.Spelling.{IsReport, HasRoom}
 use Rattle.ground_history.specs.Histories.{Sent, Kept, tag_of, greatest, newest_tag, insert_kept}
 use Rattle.ground_history.specs.Ground.{Ground, IsGrammarSent, IsGrammarKept, IsGrounded, HaveRisingFloors, HaveRisingTags}
 use Rattle.ground_history.proofs.KeptLemmas.{all-map, all-insert_kept}
@@ -47,15 +46,16 @@ inserted-rising k (j ∷ js) absent rising = go (nat_lt (tag_of k) (tag_of j)) (
         (all-insert_kept (λ x. tag_of j < tag_of x) k js (grind (arith, le, other)) rising.0, ih none)
 
 -- one more kept packet of the grammar whose tag none has
-pub grounded-kept : (g : Ground) (k : Kept) → IsGrounded g → find (λ j. tag_of j == tag_of k) g.history.kept ≡ None → IsReport g.tailoring k.report
+pub grounded-kept : (g : Ground) (k : Kept) → IsGrounded g → find (λ j. tag_of j == tag_of k) g.history.kept ≡ None → IsReport g.tailoring k.report → HasRoom k.report.body
     → IsGrounded (with_kept_packets g (insert_kept k g.history.kept))
-grounded-kept g k grounded absent is =
+grounded-kept g k grounded absent is room =
     record {
       requests = grounded.requests;
       reports = all-insert_kept (IsGrammarKept g.tailoring) k g.history.kept is grounded.reports;
       floors = grounded.floors;
       reached = reached g.history.requests grounded.reached;
       tags = inserted-rising k g.history.kept absent grounded.tags;
+      short = all-insert_kept (λ x. HasRoom x.report.body) k g.history.kept room grounded.short;
     }
   where
     reached : (requests : List Sent) → AllByRecursion (λ r. r.floor ≤ newest_tag g.history) requests
@@ -78,4 +78,5 @@ grounded-sent g r grounded is floor =
       floors = floors-appended g.history.requests r grounded.floors (subst (λ n. AllByRecursion (λ (x : Sent). x.floor ≤ n) g.history.requests) (sym floor) grounded.reached);
       reached = AllByRecursion-append (λ (x : Sent). x.floor ≤ newest_tag g.history) g.history.requests (r ∷ []) grounded.reached (omega (arith, floor), tt);
       tags = grounded.tags;
+      short = grounded.short;
     }

@@ -2,14 +2,13 @@
 use Rattle.std.proofs.Common.{arith, ◌≡◌, ℕ, suc, zero, ◌<◌, ◌≤◌, refl, sym, ◌∙◌, ap, List, [], ◌∷◌, length, map, min, Bool, true, false, nat_lt, nat_le, Option, Some, None, cond, ◌⊎◌, inl, inr}
 use Rattle.std.proofs.lemmas.Bool.{and_from, and_parts, or_cases, or_left, or_right, leb-true, ltb-true, le-leb, lt-ltb, true≢false}
 use Rattle.std.specs.Prelude.{◌||◌, filter, slice_get, IfSome, IsSomeAnd}
-use Rattle.std.specs.List.{AllByRecursion}
 use Rattle.std.specs.Option.{option_map_or}
 use Rattle.hk_base.proofs.Finds.{slice_get_each}
 use Rattle.st01_reports.specs.declared.verification.Verification.{Verification}
-use Rattle.ground_history.specs.Histories.{Sent, Kept, History, tag_of, greatest}
-use Rattle.ground_history.specs.Evidence.{passes, verifies, is_acceptance, is_start, is_completion, comes_before, comes_after, floor, low, high, least}
-use Rattle.ground_history.specs.Ground.{Ground, IsGrounded, HaveRisingFloors}
-use Rattle.ground_history.specs.Rising.{AreNoHigher, BoundsRise}
+use Rattle.ground_history.specs.Histories.{Sent, Kept, tag_of, greatest}
+use Rattle.ground_history.specs.Evidence.{passes, verifies, is_acceptance, is_start, is_completion, comes_before, comes_after, least}
+use Rattle.ground_history.specs.Ground.{HaveRisingFloors}
+use Rattle.ground_history.specs.Rising.{BoundsRise}
 use Rattle.ground_history.proofs.AttributionLemmas.{at-place}
 use Rattle.ground_history.proofs.KeptLemmas.{tags}
 

@@ -7,14 +7,12 @@ use Rattle.hk_base.specs.TailoringParts.{TailoringParts}
 use Rattle.pus_packet.specs.declared.header.TcHeader.{TcHeader}
 use Rattle.pus_messages.specs.Messages.{protocol}
 use Rattle.pus_messages.specs.Instructions.{instructions}
-use Rattle.pus_messages.specs.Spelling.{IsRequest, IsReport}
+use Rattle.pus_messages.specs.Spelling.{IsRequest, IsReport, HasRoom}
 use Rattle.ground_history.specs.Histories.{Sent, Kept, History, is_own, is_known_begun, sent_short, sent_long, tag_of, newest_tag, history_with_got, history_with_report, number_of_body, stray_id}
 use Rattle.hk_base.specs.declared.types.Memory.{Memory}
 use Rattle.pus_messages.specs.declared.message.Report.{Report}
 use Rattle.ground_history.specs.declared.answer.GotKind.{GotKind}
-use Rattle.pus_messages.specs.Protocol.{Protocol, Reception, foreign, skipped, unread, readable}
-use Rattle.ground_history.specs.declared.reception.Received.{Received}
-use Rattle.ground_history.specs.declared.reception.Received.TheVariants as received
+use Rattle.pus_messages.specs.Protocol.{Protocol}
 use Rattle.ground_history.specs.declared.answer.SentFault.{SentFault}
 use Rattle.ground_history.specs.declared.answer.SentFault.TheVariants as fault
 
@@ -41,13 +39,14 @@ abbrev pub HaveRisingTags : List Kept → Type 0
 HaveRisingTags [] = Unit {0}
 HaveRisingTags (k ∷ ks) = AllByRecursion (λ later. tag_of k < tag_of later) ks × HaveRisingTags ks
 
--- what is known is of requests and reports of the grammar, in the order of floors and of tags, and no floor is above the tags that were kept
+-- what is known is of requests and reports of the grammar with payloads that are short enough, in the order of floors and of tags, and no floor is above the tags that were kept
 pub record IsGrounded (g : Ground) : Type 0 where
   pub requests : AllByRecursion (IsGrammarSent g.tailoring) g.history.requests
   pub reports : AllByRecursion (IsGrammarKept g.tailoring) g.history.kept
   pub floors : HaveRisingFloors g.history.requests
   pub reached : AllByRecursion (λ request. request.floor ≤ newest_tag g.history) g.history.requests
   pub tags : HaveRisingTags g.history.kept
+  pub short : AllByRecursion (λ k. HasRoom k.report.body) g.history.kept
 
 -- what is known is the first, and the tailoring that of the second
 abbrev pub with_history : Ground → History → Ground
@@ -113,15 +112,3 @@ IsByTag entries = AllByRecursion (λ e. e.0 ≡ tag_of e.1) entries
 -- the packets of entries
 abbrev pub packets_of : List (ℕ × Kept) → List Kept
 packets_of entries = map (λ e. e.1) entries
-
--- a report that was received is of the grammar
-abbrev pub IsGrammarReceived : TailoringParts → Received → Type 0
-IsGrammarReceived t (received.Readable report) = IsReport t report
-IsGrammarReceived t _ = ⊤
-
--- octets that were received, as the code holds what they are
-abbrev pub reception_of : Received → Reception
-reception_of (received.Foreign apid) = foreign apid
-reception_of (received.Skipped service subtype) = skipped service subtype
-reception_of received.Unread = unread
-reception_of (received.Readable report) = readable report

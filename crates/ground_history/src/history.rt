@@ -5,18 +5,18 @@ ghost use Rattle.pus_messages.specs.Protocol.{readable};
 ghost use Rattle.ground_history.specs.Histories as histories;
 ghost use Rattle.ground_history.specs.Histories.{tag_of, new_history, sent_answer, got_kind, history_with_sent};
 ghost use Rattle.ground_history.specs.Evidence as evidence;
-ghost use Rattle.pus_messages.specs.Spelling.{IsReport};
+ghost use Rattle.pus_messages.specs.Spelling.{IsReport, HasRoom};
 ghost use Rattle.ground_history.specs.Ground.{IsGrounded, HasNumber, IsAnswer, IsCountOf, with_history, is_room_for, got_result, report_result, own_count, answer_by_count};
 
 use crate::answer::{GotKind, Outcome, SentFault};
 use crate::evidence::Evidence;
 use crate::kept::{KeptPacket, KeptPackets};
-use crate::reception::{Received, asked, is_alone, receive, subject_of};
-use crate::requests::{Requests, SentRequest};
+use crate::requests::{Requests, SentRequest, asked};
 use hk_base::{Items, Memory, RequestId, Tailoring};
-use pus_messages::{Report, ReportBody, Request};
+use pus_messages::{Reception, Report, ReportBody, Request, instructions, receive, subject};
 use pus_packet::split_tc;
 use std::alloc::Global;
+use std::collections::btree_map::Values;
 use std::marker::Model;
 
 /// The most requests of a short session, and how many counts there are.
@@ -84,10 +84,10 @@ impl History {
         ensures state { self.new ≡ with_history self.old (got_result (protocol self.old.tailoring) self.old.history bytes.now result) }
     {
         match receive(self.alloc, &self.tailoring, bytes)? {
-            Received::Foreign(apid) => Ok(GotKind::Foreign(apid)),
-            Received::Skipped(service, subtype) => Ok(GotKind::Skipped(service, subtype)),
-            Received::Unread => Ok(GotKind::Unread),
-            Received::Readable(report) => self.got_report(bytes, report),
+            Reception::Foreign(apid) => Ok(GotKind::Foreign(apid)),
+            Reception::Skipped(service, subtype) => Ok(GotKind::Skipped(service, subtype)),
+            Reception::Unread => Ok(GotKind::Unread),
+            Reception::Readable(report) => self.got_report(bytes, report),
         }
     }
 
@@ -192,14 +192,21 @@ impl History {
         &self.tailoring
     }
 
-    /// Whether the start of the session is a long one's.
+    /// Whether the session is a long one.
     pub fn long(&self) -> bool
         ensures { result ≡ self.now.history.long }
     {
         self.long
     }
 
-    /// The kept packet with this number, from 0 in the order of tags. It takes time with the number: see `report_from`.
+    /// The kept packets in the order of their tags, each in time that doesn't depend on how many there are.
+    pub fn packets(&self) -> Values<'_, u64, KeptPacket>
+        ensures { result ≡ self.now.history.kept }
+    {
+        self.kept.all()
+    }
+
+    /// The kept packet with this number, from 0 in the order of tags. It takes time with the number: see `packets`.
     pub fn report(&self, number: u64) -> Option<&Report>
         ensures { option_copied result ≡ option_map (λ k. k.report) (slice_get self.now.history.kept number) }
     {
@@ -221,8 +228,7 @@ impl History {
         }
     }
 
-    /// The first kept packet whose tag isn't below this one: with it the kept packets are gone through in the order of tags,
-    /// each in logarithmic time.
+    /// The first kept packet whose tag isn't below this one, in logarithmic time.
     pub fn report_from(&self, tag: u64) -> Option<&Report>
         ensures { option_copied result ≡ option_map (λ k. k.report) (find (λ k. nat_le tag (tag_of k)) self.now.history.kept) }
     {
@@ -343,7 +349,7 @@ impl History {
     {
         match self.requests.get(k) {
             Some(sent) => match sent.request() {
-                Some(request) => is_alone(request),
+                Some(request) => instructions(request) == 1,
                 None => false,
             },
             None => false,
@@ -367,7 +373,8 @@ impl History {
 
     /// A report that was received: what becomes of it.
     fn got_report(&mut self, bytes: &[u8], report: Report) -> Result<GotKind, Memory>
-        requires { IsReport self.old.tailoring report }
+        requires grammar { IsReport self.old.tailoring report }
+        requires short { HasRoom report.body }
         ensures kind { IfOk result (λ kind. kind ≡ histories.kind_by_reception self.old.history bytes.now (readable report)) }
         ensures state { self.new ≡ with_history self.old (report_result self.old.history bytes.now report result) }
     {
@@ -394,7 +401,7 @@ impl History {
         let ReportBody::Verify(verification) = &report.body else {
             return Ok(None);
         };
-        let id = subject_of(verification);
+        let id = subject(verification);
         match self.requests.verified(self.long, id, report.header.tag) {
             Some(number) => Ok(Some(number)),
             None => Err(id),
@@ -407,13 +414,14 @@ impl History {
         requires sent { IfSome number (λ k. k < 2 ^ 63) }
         requires absent { histories.kept_at self.old.history report.header.tag ≡ None }
         requires grammar { IsReport self.old.tailoring report }
+        requires short { HasRoom report.body }
         ensures kept { OnOk result (self.new ≡ with_history self.old (histories.with_kept self.old.history bytes.now report)) }
         ensures same { OnErr result (self.new ≡ self.old) }
     {
         let tag = report.header.tag;
         self.evidence.make_room_for(number, &report.body)?;
-        let packet = Items::from_slice(self.alloc, bytes)?;
-        self.kept.keep(KeptPacket::new(packet, report, number))?;
+        let packet = KeptPacket::new(self.alloc, bytes, report, number)?;
+        self.kept.keep(packet)?;
         let Some(kept) = self.kept.with_tag(tag) else {
             unreachable!();
         };

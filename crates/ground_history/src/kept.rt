@@ -1,22 +1,27 @@
-ghost use Rattle.std.specs.Prelude.{◌≡◌, ◌∷◌, [], None, Some, find, nat_le, ◌==◌, OnOk, OnErr, length, map, slice_get};
+ghost use Rattle.std.specs.Prelude.{◌≡◌, ◌∷◌, [], None, Some, find, nat_le, ◌==◌, IfOk, OnOk, OnErr, length, map, slice_get};
 ghost use Rattle.std.specs.Option.{option_copied};
 ghost use Rattle.ground_history.specs.Histories.{tag_of, greatest, insert_kept};
 ghost use Rattle.ground_history.specs.Histories as histories;
 
-use hk_base::{Memory, Octets};
+use hk_base::{Items, Memory, Octets};
 use pus_messages::Report;
 use std::alloc::Global;
 use std::collections::BTreeMap;
+use std::collections::btree_map::Values;
 use std::marker::Model;
 use std::ops::Bound;
 
-/// A packet that was kept.
+/// A packet that was kept. What it holds has a place of its own, since the nodes of a map are large and half empty.
 #[derive(Debug, Drop)]
-pub(crate) struct KeptPacket {
-    pub packet: Octets,
-    pub report: Report,
-    /// The number of the request that it verifies, if it is a verification report.
-    pub number: Option<u64>,
+pub struct KeptPacket {
+    contents: Box<Contents>,
+}
+
+#[derive(Debug, Drop)]
+struct Contents {
+    packet: Octets,
+    report: Report,
+    number: Option<u64>,
 }
 
 impl Model for KeptPacket {
@@ -24,42 +29,51 @@ impl Model for KeptPacket {
 
     ghost Value = { Kept };
 
-    ghost view = { λ kept. record { packet = kept.packet; report = kept.report; number = kept.number } };
+    ghost view = { λ kept. record { packet = kept.contents.value.packet; report = kept.contents.value.report; number = kept.contents.value.number } };
 }
 
 impl KeptPacket {
-    pub(crate) fn new(packet: Octets, report: Report, number: Option<u64>) -> KeptPacket
-        ensures { result ≡ record { packet = packet; report = report; number = number } }
+    pub(crate) fn new(
+        alloc: Global,
+        bytes: &[u8],
+        report: Report,
+        number: Option<u64>,
+    ) -> Result<KeptPacket, Memory>
+        ensures { IfOk result (λ kept. kept ≡ record { packet = bytes.now; report = report; number = number }) }
     {
-        KeptPacket {
+        let packet = Items::from_slice(alloc, bytes)?;
+        let contents = Contents {
             packet,
             report,
             number,
-        }
+        };
+        let contents = Box::new(alloc, contents)?;
+        Ok(KeptPacket { contents })
     }
 
-    pub(crate) fn tag(&self) -> u64
+    pub fn tag(&self) -> u64
         ensures { result ≡ tag_of self.now }
     {
-        self.report.header.tag
+        self.contents.report.header.tag
     }
 
-    pub(crate) fn number(&self) -> Option<u64>
+    /// The number of the request that it verifies, if it is a verification report.
+    pub fn number(&self) -> Option<u64>
         ensures { result ≡ self.now.number }
     {
-        self.number
+        self.contents.number
     }
 
     pub(crate) fn packet(&self) -> &[u8]
         ensures { result.now ≡ self.now.packet }
     {
-        self.packet.as_slice()
+        self.contents.packet.as_slice()
     }
 
-    pub(crate) fn report(&self) -> &Report
+    pub fn report(&self) -> &Report
         ensures { result.now ≡ self.now.report }
     {
-        &self.report
+        &self.contents.report
     }
 }
 
@@ -112,6 +126,13 @@ impl KeptPackets {
         ensures { option_copied result ≡ find (λ k. tag_of k == tag) self.now }
     {
         self.packets.get(&tag)
+    }
+
+    /// All of them.
+    pub(crate) fn all(&self) -> Values<'_, u64, KeptPacket>
+        ensures { result ≡ self.now }
+    {
+        self.packets.values()
     }
 
     /// The packet with this number, from 0.

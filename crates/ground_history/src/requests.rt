@@ -1,10 +1,14 @@
-ghost use Rattle.std.specs.Prelude.{◌≡◌, ◌<◌, ◌≤◌, ◌^◌, ◌++◌, ◌∷◌, [], OnOk, OnErr, IfSome, length, slice_get, bytes_eq};
+ghost use Rattle.std.specs.Prelude.{◌≡◌, ◌<◌, ◌≤◌, ◌^◌, ◌++◌, ◌∷◌, [], OnOk, OnErr, IfOk, IfSome, length, slice_get, bytes_eq};
 ghost use Rattle.std.specs.Option.{option_copied};
+ghost use Rattle.std.specs.Result.{result_ok};
+ghost use Rattle.pus_messages.specs.Messages.{request_of};
+ghost use Rattle.pus_messages.specs.Instructions.{instructions};
+ghost use Rattle.pus_messages.specs.Spelling.{IsRequest};
 ghost use Rattle.ground_history.specs.Histories.{last_number};
 ghost use Rattle.ground_history.specs.Ground.{AreCounted, IsCounted, is_verified_by};
 
-use hk_base::{Memory, Octets, RequestId, get_uint};
-use pus_messages::Request;
+use hk_base::{Memory, Octets, RequestId, Tailoring, get_uint};
+use pus_messages::{MessageFault, Request, read_request};
 use std::alloc::Global;
 use std::marker::Model;
 
@@ -142,5 +146,22 @@ impl Requests {
             }
         }
         None
+    }
+}
+
+/// What a request packet asks; None where its body isn't in the grammar.
+pub(crate) fn asked(
+    alloc: Global,
+    tailoring: &Tailoring,
+    bytes: &[u8],
+) -> Result<Option<Request>, Memory>
+    requires { length bytes.now ≤ 2 ^ 31 }
+    ensures request { IfOk result (λ request. request ≡ result_ok (request_of tailoring.now bytes.now)) }
+    ensures grammar { IfOk result (λ request. IfSome request (λ known. IsRequest tailoring.now known × (length (instructions known) ≤ 255))) }
+{
+    match read_request(alloc, tailoring, bytes) {
+        Ok(request) => Ok(Some(request)),
+        Err(MessageFault::Memory) => Err(Memory),
+        Err(_) => Ok(None),
     }
 }

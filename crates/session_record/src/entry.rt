@@ -91,3 +91,11 @@ impl From<Failed> for WriteFault {
         WriteFault::Failed
     }
 }
+
+impl From<Memory> for WriteFault {
+    ghost from_gives = { λ _ e. e ≡ write.Memory };
+
+    fn from(_: Memory) -> WriteFault {
+        WriteFault::Memory
+    }
+}

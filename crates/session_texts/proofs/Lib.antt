@@ -10,3 +10,5 @@ pub mod LaterFacts
 pub mod FollowLemmas
 pub mod SettledLemmas
 pub mod ExampleText
+pub mod FeedLemmas
+pub mod LineLemmas

@@ -20,6 +20,7 @@ ghost use Rattle.session_texts.specs.Sessions.{known_after, known_with, kinds_af
 ghost use Rattle.session_texts.specs.Texts.{count_lines, blocks, text};
 ghost use Rattle.session_texts.specs.Follow.{is_decision, followed, follow_text};
 ghost use Rattle.session_texts.specs.Truth.{openings_in, IsTrueVerdict, IsTrueText, IsTrueSoFar, IsTrueFollowing, IsSeenIn, kinds_in};
+ghost use Rattle.session_texts.specs.Lines.{HasTrueLines};
 ghost use Rattle.session_texts.specs.Example.{commanded_entries, commanded_text};
 ghost use Rattle.session_texts.specs.declared.problem.RecordProblem.TheVariants as problem;
 
@@ -75,6 +76,13 @@ pub fn true_verdicts()
         → openings_in w key tag ≡ [] → v ≡ Verdict.NoOpening }
     ensures opened { (w : World) (key : Key) (tag : ℕ) (rows : List (Place × ℤ)) → IsTrueVerdict w key tag Verdict.NoOpening rows
         → openings_in w key tag ≡ [] }
+{}
+
+/// Of a text that is true each line is true, also where only a first part of it was written.
+pub fn lines_are_true()
+    ensures text { (w : World) (written rest : List ℕ) → IsTrueText w (written ++ rest) → HasTrueLines w written }
+    ensures following { (w : World) (written rest : List ℕ) → IsTrueFollowing w (written ++ rest) → HasTrueLines w written }
+    ensures so_far { (w : World) (written rest : List ℕ) → IsTrueSoFar w (written ++ rest) → HasTrueLines w written }
 {}
 
 /// There is a world of whose entries a value is written.

@@ -5,7 +5,7 @@ mod laws;
 mod problem;
 
 pub use laws::{
-    empty_records, entries_come_one_by_one, followed_lines_are_true,
-    records_of_worlds_have_no_problem, texts_are_true,
+    empty_records, entries_come_one_by_one, example_texts, followed_lines_are_true, lines_are_true,
+    records_of_worlds_have_no_problem, texts_are_true, true_verdicts,
 };
 pub use problem::{RecordProblem, Tally};

@@ -107,13 +107,13 @@ after_unfollowed waiting (Err fault) = waiting
 abbrev pub IsOrderly : Standing → Type 0
 IsOrderly s = length s.history.requests + (length s.history.kept + total s.counts) ≤ s.entries
 
--- the blocks of the kept reports in the order of tags
-abbrev pub standing_blocks : Standing → List ℕ
-standing_blocks s = flat_map (block s.tailoring s.history) s.history.kept
+-- the blocks of the kept reports in the order of tags, and then the counts
+abbrev pub text_by : Ground → Counts → List ℕ
+text_by g c = flat_map (block g.tailoring g.history) g.history.kept ++ lines_of c
 
--- the whole text: the blocks, and then the counts
+-- the whole text
 abbrev pub standing_text : Standing → List ℕ
-standing_text s = standing_blocks s ++ lines_of s.counts
+standing_text s = text_by (ground_of s) s.counts
 
 -- the numbers
 abbrev pub standing_tally : Standing → Tally

@@ -4,15 +4,19 @@ ghost use Rattle.ground_history.specs.Ground.{IsAnswer, IsGrounded};
 ghost use Rattle.session_record.specs.Records.{held_octets};
 ghost use Rattle.session_record.specs.Writing.{Writes};
 ghost use Rattle.decommutator.specs.Standing.{new_standing, entry_answer, after_entry, after_unfollowed, ground_of, standing_text, standing_tally};
-ghost use Rattle.decommutator.specs.Finishing.{FinishCounts, FinishesWithin};
+ghost use Rattle.hk_world.specs.Worlds.{World};
+ghost use Rattle.session_texts.specs.Truth.{IsTrueText};
+ghost use Rattle.decommutator.specs.Entries.{IsStandingIn};
+ghost use Rattle.decommutator.specs.Output.{FinishCounts, FinishesWithin};
 
 use crate::counts::no_counts;
 use crate::taking::take;
+use crate::text::write_text;
 use block_lines::Counts;
 use ground_history::{History, SentFault};
 use hk_base::{Items, Memory, Sink, Tailoring};
 use session_record::{Entry, WriteFault};
-use session_texts::Tally;
+use session_texts::{Tally, texts_are_true};
 use std::alloc::Global;
 use std::marker::Model;
 
@@ -84,10 +88,11 @@ impl Decommutator {
         ensures written { Writes (standing_text self.now.standing) result (K.taken sink.old) (K.taken sink.new) }
         ensures count { FinishCounts result (K.faults sink.old) (K.faults sink.new) }
         ensures room { FinishesWithin (standing_text self.now.standing) result (K.room sink.old) }
+        ensures truth { (w : World) → IsStandingIn w self.now.standing → IsTrueText w (standing_text self.now.standing) }
     {
-        let _alloc = self.alloc;
-        let _sink = sink;
-        Err(WriteFault::Memory)
+        // A law: it says of which worlds the text is true, and does nothing.
+        texts_are_true();
+        write_text(self.alloc, &self.history, &self.counts, sink)
     }
 
     /// The numbers of the entries.

@@ -1,12 +1,15 @@
 //! The text of a session, by its entries: what became of each is kept, and the text is written from that.
 #![tactic(auto)]
 
+mod blocks;
 mod counts;
 mod decommutator;
 mod fault;
 mod laws;
+mod output;
 mod row;
 mod taking;
+mod text;
 
 pub use decommutator::Decommutator;
 pub use fault::FollowFault;

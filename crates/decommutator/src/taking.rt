@@ -10,7 +10,11 @@ use ground_history::{History, SentFault};
 use session_record::Entry;
 
 /// Takes an entry: a packet that was sent, or one that was received. A line of the journal is skipped, and a refusal changes nothing.
-pub(crate) fn take(history: &mut History, counts: &mut Counts, entry: &Entry) -> Result<(), SentFault>
+pub(crate) fn take(
+    history: &mut History,
+    counts: &mut Counts,
+    entry: &Entry,
+) -> Result<(), SentFault>
     requires few { total counts.old < 4294967295 }
     requires size { length (held_octets entry.now) ≤ 2 ^ 31 }
     ensures answer { IsAnswer (answer_of history.old entry.now) result }

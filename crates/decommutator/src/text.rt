@@ -1,0 +1,27 @@
+//! The whole text.
+ghost use Rattle.std.specs.Prelude.{◌≡◌};
+ghost use Rattle.decommutator.specs.Output.{HasEnded, seen_as};
+ghost use Rattle.decommutator.specs.Standing.{text_by};
+
+use crate::blocks::write_blocks;
+use crate::output::write_gathered;
+use block_lines::{Counts, write_counts};
+use ground_history::History;
+use hk_base::Sink;
+use session_record::WriteFault;
+use std::alloc::Global;
+
+/// Writes the blocks of the kept reports in the order of tags, and then the counts.
+pub(crate) fn write_text<K: Sink>(
+    alloc: Global,
+    history: &History,
+    counts: &Counts,
+    sink: &mut K,
+) -> Result<(), WriteFault>
+    ensures { HasEnded (text_by history.now counts.now) result (seen_as (K.taken sink.old) (K.faults sink.old) (K.room sink.old)) (seen_as (K.taken sink.new) (K.faults sink.new) (K.room sink.new)) }
+{
+    let mut out = Vec::new(alloc);
+    write_blocks(alloc, history, sink, &mut out)?;
+    write_counts(&mut out, counts)?;
+    write_gathered(sink, &mut out)
+}

@@ -7,6 +7,7 @@ use Rattle.hk_base.specs.Payload.{places}
 use Rattle.hk_base.specs.declared.types.Form.TheVariants.{Unsigned}
 use Rattle.hk_base.specs.declared.types.Kind.TheVariants.{Housekeeping}
 use Rattle.hk_base.specs.declared.types.RequestId.{RequestId}
+use Rattle.hk_base.specs.declared.types.Place.{Place}
 use Rattle.hk_base.specs.declared.types.SuperList.{SuperList}
 use Rattle.hk_base.specs.declared.types.Definition.{Definition}
 use Rattle.hk_base.specs.declared.types.Boot.{Boot}
@@ -17,7 +18,9 @@ use Rattle.st03_grammar.specs.Instructions.{key_of}
 use Rattle.st03_grammar.specs.declared.bodies.Request03.TheVariants.{Intervals}
 use Rattle.st03_grammar.specs.declared.bodies.Report03.TheVariants.{Values}
 use Rattle.pus_messages.specs.Spelling.{request_octets, report_octets, report_type}
+use Rattle.pus_messages.specs.declared.message.Request.{Request}
 use Rattle.pus_messages.specs.declared.message.RequestBody.TheVariants as ask
+use Rattle.pus_messages.specs.declared.message.Report.{Report}
 use Rattle.pus_messages.specs.declared.message.ReportBody.{ReportBody}
 use Rattle.pus_messages.specs.declared.message.ReportBody.TheVariants as tell
 use Rattle.session_record.specs.declared.entry.Entry.{Entry}
@@ -32,9 +35,13 @@ numbers_from first (suc count) = first ∷ numbers_from (suc first) count
 abbrev pub made_arrays : ℕ → List SuperList
 made_arrays s = if nat_le s 4 then record { repetition = 2; params = (36 + s) ∷ [] } ∷ [] else []
 
+-- the simple parameters of a structure
+abbrev pub made_simple : ℕ → List ℕ
+made_simple s = numbers_from (6 * (s - 1) + 1) 6
+
 -- a structure of the session
 abbrev pub made_boot : ℕ → Boot
-made_boot s = boot Housekeeping s 4 true (numbers_from (6 * (s - 1) + 1) 6) (made_arrays s)
+made_boot s = boot Housekeeping s 4 true (made_simple s) (made_arrays s)
 
 -- the tailoring of the session
 unfoldable pub made_tailoring : TailoringParts
@@ -74,11 +81,10 @@ interval_after s (suc q) = if (changed_structure q == s) && not (is_lost q) then
 abbrev pub made_definition : ℕ → ℕ → Definition
 made_definition s round = record (made_boot s).structure.def { interval = interval_after s ((round + 15) / 16) }
 
--- the packet of a report with a tag
-unfoldable pub made_report : ℕ → ReportBody → List ℕ
-made_report tag body =
-    report_octets made_tailoring
-    (record {
+-- a report with a tag
+abbrev pub report_of : ℕ → ReportBody → Report
+report_of tag body =
+    record {
       header =
           record {
             apid = 100;
@@ -91,24 +97,39 @@ made_report tag body =
             tag = tag;
           };
       body = body;
-    })
+    }
+
+-- the packet of a report with a tag
+unfoldable pub made_report : ℕ → ReportBody → List ℕ
+made_report tag body = report_octets made_tailoring (report_of tag body)
+
+-- the octets of the sample that is taken at a place
+abbrev pub sample_octets : ℕ → Place → List ℕ
+sample_octets seed p = octets_of 2 (made_sample seed p.param p.slot)
 
 -- the payload of a structure's report in a round
 unfoldable pub made_payload : ℕ → ℕ → ℕ → List ℕ
-made_payload seed s round = flat_map (λ p. octets_of 2 (made_sample seed p.param p.slot)) (places (made_definition s round) (4 * round + 3))
+made_payload seed s round = flat_map (sample_octets seed) (places (made_definition s round) (4 * round + 3))
+
+-- the report of a structure with this payload
+abbrev pub values_body : ℕ → List ℕ → ReportBody
+values_body s payload = tell.Hk (Values (key_of Housekeeping s) payload)
 
 -- the report of a structure in a round
 abbrev pub structure_entry : ℕ → ℕ → ℕ → Entry
-structure_entry seed round s = Got (made_report (round_tag round + s) (tell.Hk (Values (key_of Housekeeping s) (made_payload seed s round))))
+structure_entry seed round s = Got (made_report (round_tag round + s) (values_body s (made_payload seed s round)))
+
+-- a request
+abbrev pub request_of : ℕ → Request
+request_of q =
+    record {
+      header = record { apid = 100; count = q; flags = 15; service = 3; subtype = 31; source = 1 };
+      body = ask.Hk (Intervals Housekeeping (record { id = changed_structure q; interval = set_interval q } ∷ []));
+    }
 
 -- the packet of a request
 unfoldable pub made_request : ℕ → List ℕ
-made_request q =
-    request_octets made_tailoring
-    (record {
-      header = record { apid = 100; count = q; flags = 15; service = 3; subtype = 31; source = 1 };
-      body = ask.Hk (Intervals Housekeeping (record { id = changed_structure q; interval = set_interval q } ∷ []));
-    })
+made_request q = request_octets made_tailoring (request_of q)
 
 -- a verification report of a request so many ticks into its round
 abbrev pub verified : ℕ → ℕ → (RequestId → Verification) → Entry

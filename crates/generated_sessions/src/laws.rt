@@ -1,5 +1,7 @@
 //! How the entries of a session come.
-ghost use Rattle.std.specs.Prelude.{◌≡◌, ◌+◌, ◌++◌, [], ℕ};
+ghost use Rattle.std.specs.Prelude.{◌≡◌, ◌+◌, ◌≤◌, ◌++◌, [], ℕ, length};
+ghost use Rattle.std.specs.List.{All};
+ghost use Rattle.session_record.specs.Records.{held_octets};
 ghost use Rattle.generated_sessions.specs.Generated as made;
 
 /// The session of no rounds has no entries before the last ones, a round more has the entries of that round more, and at the
@@ -8,4 +10,12 @@ pub fn rounds_come_one_by_one()
     ensures none { (seed : ℕ) → made.rounds seed 0 ≡ [] }
     ensures more { (seed count : ℕ) → made.rounds seed (count + 1) ≡ made.rounds seed count ++ made.round_entries seed count }
     ensures end { (seed count : ℕ) → made.generated seed count ≡ made.rounds seed count ++ made.late_entries seed count }
+{}
+
+/// The entries of a round are few, and so are the last ones. Each holds no more octets than a packet has.
+pub fn entries_are_short()
+    ensures round { (seed round : ℕ) → All (λ e. length (held_octets e) ≤ 65542) (made.round_entries seed round) }
+    ensures few { (seed round : ℕ) → length (made.round_entries seed round) ≤ 32 }
+    ensures late { (seed count : ℕ) → All (λ e. length (held_octets e) ≤ 65542) (made.late_entries seed count) }
+    ensures one { (seed count : ℕ) → length (made.late_entries seed count) ≤ 1 }
 {}

@@ -5,9 +5,12 @@
 #![tactic(auto)]
 
 mod laws;
+mod packets;
+mod payload;
 mod rounds;
+mod schedule;
 mod structures;
 
-pub use laws::rounds_come_one_by_one;
+pub use laws::{entries_are_short, rounds_come_one_by_one};
 pub use rounds::{last_entries, round_entries};
 pub use structures::tailoring;

@@ -1,5 +1,5 @@
 -- The outcome of what is still to come stays what it is while entries are taken.
-use Rattle.std.proofs.Common.{◌≡◌, ℕ, List, ◌++◌, Option, Some, None, Result, Ok, Err, refl, sym, ap, subst, ◌∙◌}
+use Rattle.std.proofs.Common.{arith, append-nil, ◌≡◌, ◌+◌, ℕ, List, ◌++◌, Option, Some, None, Result, Ok, Err, refl, sym, ap, subst, ◌∙◌}
 use Rattle.std.specs.Prelude.{Bool, IfSome, IsSome, MatchResult, option_map}
 use Rattle.std.specs.Result.{result_unwrap_or}
 use Rattle.hk_base.specs.TailoringParts.{TailoringParts}
@@ -10,13 +10,14 @@ use Rattle.session_record.specs.declared.entry.Entry.{Entry}
 use Rattle.session_record.specs.declared.entry.RecordFault.{RecordFault}
 use Rattle.session_record.specs.declared.entry.RecordFault.TheVariants.{BadMagic, BadKind, Cut, TooLong, TooManyEntries, ReadFault, Memory}
 use Rattle.session_texts.specs.declared.problem.RecordProblem.TheVariants as problem
-use Rattle.decommutator.specs.Standing.{Standing, new_standing, with_entry, entry_answer, standing_text}
-use Rattle.ground_history.specs.declared.answer.SentFault.{SentFault}
+use Rattle.decommutator.specs.Standing.{Standing, new_standing, standing_text}
 use Rattle.hk_replay.specs.Faults.{status_of_fault}
-use Rattle.hk_replay.specs.Outcomes.{Outcome, written, stopped, replay_outcome}
-use Rattle.hk_replay.specs.Replay.{EndsWith, ReadsTo}
-use Rattle.hk_replay.specs.Taking.{answered_outcome, end_outcome, entries_outcome, rest_outcome, Takes, TakesRest}
+use Rattle.session_record.specs.Written.{IsPrefixWritten}
+use Rattle.hk_replay.specs.Outcomes.{Outcome, written, stopped, listed, replay_outcome}
+use Rattle.hk_replay.specs.Replay.{EndsWith, HasOutput, IsReadingStatus}
+use Rattle.hk_replay.specs.Taking.{entries_outcome, first_outcome, rest_outcome}
 use Rattle.hk_replay.specs.declared.status.ReplayStatus.{ReplayStatus}
+use Rattle.hk_replay.specs.declared.status.ReplayStatus.TheVariants as status
 use Rattle.hk_replay.specs.declared.status.ReplayStatus.TheVariants.{Record}
 use Rattle.hk_replay.proofs.SessionLemmas.{Stands, whole_record, no_record}
 
@@ -28,54 +29,9 @@ abbrev pub KeepsOutcome : Standing → Reading → Option (List ℕ) → Standin
 KeepsOutcome before start was s r rest =
     IfSome was (λ octets. IfSome rest (λ left. rest_outcome s (to_come r left) ≡ rest_outcome before (to_come start octets)) × IsSome rest)
 
-pub keeps_start : (s : Standing) (r : Reading) (was : Option (List ℕ)) → KeepsOutcome s r was s r was
-keeps_start s r None = tt
-keeps_start s r (Some octets) = (refl, refl)
-
-first_taken : (s after : Standing) (offset : ℕ) (e : Entry) (was now : Result (Header × Entries) RecordFault) → IsFirst (Ok (Some (offset, e))) was now
-    → Takes (Ok tt) offset e s after → rest_outcome after now ≡ rest_outcome s was
-first_taken s after offset e was (Ok left) first takes =
-    ap (λ (x : Standing). rest_outcome x (Ok left)) takes.1
-    ∙ (sym (ap (λ (a : Result Unit SentFault). answered_outcome offset a (entries_outcome (with_entry s e) left.1.list left.1.fault)) takes.0)
-    ∙ sym (ap (rest_outcome s) first))
-first_taken s after offset e was (Err f) first takes = absurd first
-
--- an entry more
-pub keeps_more : (before s after : Standing) (start r q : Reading) (was mid rest : Option (List ℕ)) (x : ℕ × Entry)
-    → KeepsOutcome before start was s r mid → Answers (Ok (Some x)) r mid q rest → Takes (Ok tt) x.0 x.1 s after → KeepsOutcome before start was after q rest
-keeps_more before s after start r q None mid rest x keeps answer takes = tt
-keeps_more before s after start r q (Some octets) None rest x keeps answer takes = absurd (none_told keeps.1)
-keeps_more before s after start r q (Some octets) (Some m) None x keeps answer takes = absurd (none_told answer.1)
-keeps_more before s after start r q (Some octets) (Some m) (Some a) x keeps answer takes =
-    (first_taken s after x.0 x.1 (to_come r m) (to_come q a) answer.0 takes ∙ keeps.0, refl)
-
-first_refused : (s after : Standing) (status : ReplayStatus) (offset : ℕ) (e : Entry) (was now : Result (Header × Entries) RecordFault) → IsFirst (Ok (Some (offset, e))) was now
-    → Takes (Err status) offset e s after → EndsWith status (rest_outcome s was)
-first_refused s after status offset e was (Ok left) first takes =
-    subst (λ (o : Outcome). EndsWith status o) (sym (ap (rest_outcome s) first)) (takes (entries_outcome (with_entry s e) left.1.list left.1.fault))
-first_refused s after status offset e was (Err f) first takes = absurd first
-
--- an entry that can't be taken
-pub refused_ends : (before s after : Standing) (status : ReplayStatus) (start r q : Reading) (was mid rest : Option (List ℕ)) (x : ℕ × Entry)
-    → KeepsOutcome before start was s r mid → Answers (Ok (Some x)) r mid q rest → Takes (Err status) x.0 x.1 s after
-    → IfSome was (λ octets. EndsWith status (rest_outcome before (to_come start octets)))
-refused_ends before s after status start r q None mid rest x keeps answer takes = tt
-refused_ends before s after status start r q (Some octets) None rest x keeps answer takes = absurd (none_told keeps.1)
-refused_ends before s after status start r q (Some octets) (Some m) None x keeps answer takes = absurd (none_told answer.1)
-refused_ends before s after status start r q (Some octets) (Some m) (Some a) x keeps answer takes =
-    subst (λ (o : Outcome). EndsWith status o) keeps.0 (first_refused s after status x.0 x.1 (to_come r m) (to_come q a) answer.0 takes)
-
 first_none : (s : Standing) (was now : Result (Header × Entries) RecordFault) → IsFirst (Ok None) was now → rest_outcome s was ≡ written (standing_text s)
 first_none s (Ok b) now first = ap (λ (es : Entries). entries_outcome s es.list es.fault) first.1
 first_none s (Err f) now first = absurd first.1
-
--- the end of the entries
-pub end_written : (before s : Standing) (start r q : Reading) (was mid rest : Option (List ℕ))
-    → KeepsOutcome before start was s r mid → Answers (Ok None) r mid q rest → IfSome was (λ octets. TakesRest (Ok tt) s (rest_outcome before (to_come start octets)))
-end_written before s start r q None mid rest keeps answer = tt
-end_written before s start r q (Some octets) None rest keeps answer = absurd (none_told keeps.1)
-end_written before s start r q (Some octets) (Some m) None keeps answer = absurd (none_told answer.1)
-end_written before s start r q (Some octets) (Some m) (Some a) keeps answer = sym keeps.0 ∙ first_none s (to_come r m) (to_come q a) answer.0
 
 first_behind : (s : Standing) (fault : RecordFault) (was : Result (Header × Entries) RecordFault)
     → MatchResult was (λ b. b.1 ≡ no_entries (Some fault)) (λ f. ⊥) → rest_outcome s was ≡ stopped (Record (problem.Format fault))
@@ -95,15 +51,6 @@ first_fault s (TooLong o) was now h = ends_as s (status_of_fault (TooLong o)) wa
 first_fault s (TooManyEntries o) was now h = ends_as s (status_of_fault (TooManyEntries o)) was (stopped (Record (problem.Format (TooManyEntries o)))) (first_behind s (TooManyEntries o) was h.1) refl
 first_fault s ReadFault was now h = tt
 first_fault s Memory was now h = tt
-
--- a fault of the record, of the shelf or of memory
-pub fault_ends : (before s : Standing) (start r q : Reading) (was mid rest : Option (List ℕ)) (fault : RecordFault)
-    → KeepsOutcome before start was s r mid → Answers (Err fault) r mid q rest → IfSome was (λ octets. EndsWith (status_of_fault fault) (rest_outcome before (to_come start octets)))
-fault_ends before s start r q None mid rest fault keeps answer = tt
-fault_ends before s start r q (Some octets) None rest fault keeps answer = absurd (none_told keeps.1)
-fault_ends before s start r q (Some octets) (Some m) None fault keeps answer = absurd (none_told answer.1)
-fault_ends before s start r q (Some octets) (Some m) (Some a) fault keeps answer =
-    subst (λ (o : Outcome). EndsWith (status_of_fault fault) o) keeps.0 (first_fault s fault (to_come r m) (to_come q a) answer.0)
 
 same_ok : (x y : Header × Entries) → ◌≡◌ {A = Result (Header × Entries) RecordFault} (Ok x) (Ok y) → x.0 ≡ y.0
 same_ok x y e = ap (λ r. (result_unwrap_or r x).0) e
@@ -145,28 +92,22 @@ start_outcome stands t octets q a None now (Some h) known long is come answer k 
     at_end (Ok b) e first = header_outcome stands t octets b b.1 h known long e (header_of_rest q a b h is (come ∙ first.0)) k l
     at_end (Err f) e first = absurd first.1
 
--- the entries that are to come after the header have the outcome of the record
-pub known_outcome : Stands → (t : TailoringParts) (q : Reading) (was rest : Option (List ℕ)) (first : Option (ℕ × Entry)) (known long : Bool)
-    → Answers (Ok first) reading_at_start was q rest → option_map (λ (h : Header). h.known) q.header ≡ Some known → option_map (λ (h : Header). h.long) q.header ≡ Some long
-    → IfSome was (λ octets. rest_outcome (new_standing t known long) (to_come reading_at_start octets) ≡ replay_outcome t octets)
-known_outcome stands t q None rest first known long answer k l = tt
-known_outcome stands t q (Some octets) None first known long answer k l = absurd (none_told answer.1)
-known_outcome stands t q (Some octets) (Some a) first known long answer k l =
-    start_outcome stands t octets q a first (to_come q a) q.header known long refl refl answer.0 k l
+first_is : (s : Standing) (first : Option (ℕ × Entry)) (was now : Result (Header × Entries) RecordFault) → IsFirst (Ok first) was now → first_outcome s first now ≡ rest_outcome s was
+first_is s (Some x) was (Ok left) answer = sym (ap (rest_outcome s) answer)
+first_is s (Some x) was (Err f) answer = absurd answer
+first_is s None was now answer = sym (first_none s was now answer)
 
--- what holds of the outcome of what was to come holds of that of the record
-pub of_record : (P : Outcome → Type 0) (s : Standing) (t : TailoringParts) (was : Option (List ℕ))
-    → IfSome was (λ octets. rest_outcome s (to_come reading_at_start octets) ≡ replay_outcome t octets)
-    → IfSome was (λ octets. P (rest_outcome s (to_come reading_at_start octets))) → IfSome was (λ octets. P (replay_outcome t octets))
-of_record P s t None is holds = tt
-of_record P s t (Some octets) is holds = subst P is holds
-
--- what holds of the outcome of what is still to come holds of that of what was to come
-pub of_rest : (P : Outcome → Type 0) (before s : Standing) (start r : Reading) (was rest : Option (List ℕ)) → KeepsOutcome before start was s r rest
-    → IfSome rest (λ left. P (rest_outcome s (to_come r left))) → IfSome was (λ octets. P (rest_outcome before (to_come start octets)))
-of_rest P before s start r None rest keeps holds = tt
-of_rest P before s start r (Some octets) None keeps holds = absurd (none_told keeps.1)
-of_rest P before s start r (Some octets) (Some left) keeps holds = subst P keeps.0 holds
+-- what holds of the outcome of the first entry and of what is still to come holds of that of the record
+pub of_first : Stands → (P : Outcome → Type 0) (t : TailoringParts) (s : Standing) (q : Reading) (was rest : Option (List ℕ)) (first : Option (ℕ × Entry)) (known long : Bool)
+    → s ≡ new_standing t known long → Answers (Ok first) reading_at_start was q rest
+    → Some known ≡ option_map (λ (h : Header). h.known) q.header → Some long ≡ option_map (λ (h : Header). h.long) q.header
+    → IfSome rest (λ left. P (first_outcome s first (to_come q left))) → IfSome was (λ octets. P (replay_outcome t octets))
+of_first stands P t s q None rest first known long new answer k l holds = tt
+of_first stands P t s q (Some octets) None first known long new answer k l holds = absurd (none_told answer.1)
+of_first stands P t s q (Some octets) (Some a) first known long new answer k l holds =
+    subst P (first_is s first (read_record octets) (to_come q a) answer.0
+        ∙ (ap (λ (x : Standing). rest_outcome x (read_record octets)) new
+        ∙ start_outcome stands t octets q a first (to_come q a) q.header known long refl refl answer.0 (sym k) (sym l))) holds
 
 start_fault : Stands → (t : TailoringParts) (octets : List ℕ) (fault : RecordFault) (now : Result (Header × Entries) RecordFault) → IsFirst (Err fault) (read_record octets) now
     → EndsWith (status_of_fault fault) (replay_outcome t octets)
@@ -191,3 +132,55 @@ pub start_ends : Stands → (t : TailoringParts) (q : Reading) (was rest : Optio
 start_ends stands t q None rest fault answer = tt
 start_ends stands t q (Some octets) None fault answer = absurd (none_told answer.1)
 start_ends stands t q (Some octets) (Some a) fault answer = start_fault stands t octets fault (to_come q a) answer.0
+
+nothing_written : (before : Option (List ℕ)) (text : List ℕ) → IsPrefixWritten before text before
+nothing_written None text = (0, omega arith, tt)
+nothing_written (Some taken) text = (0, omega arith, ap Some (sym (append-nil taken)))
+
+-- a run that ended while it read wrote nothing
+ended_early : (status : ReplayStatus) (outcome : Outcome) (before : Option (List ℕ)) → IsReadingStatus status → EndsWith status outcome → HasOutput status outcome before before
+ended_early status.Done outcome before reading ends = absurd reading
+ended_early status.Usage outcome before reading ends = absurd reading
+ended_early status.WriteFault outcome before reading ends = absurd reading
+ended_early status.ReadFault (written text) before reading ends = (tt, refl)
+ended_early status.ReadFault (stopped known) before reading ends = (tt, refl)
+ended_early status.ReadFault (listed text known) before reading ends = nothing_written before text
+ended_early status.NoMemory (written text) before reading ends = nothing_written before text
+ended_early status.NoMemory (stopped known) before reading ends = (tt, refl)
+ended_early status.NoMemory (listed text known) before reading ends = nothing_written before text
+ended_early (status.Tailoring f) (written text) before reading ends = absurd ends
+ended_early (status.Tailoring f) (stopped known) before reading ends = (ends, refl)
+ended_early (status.Tailoring f) (listed text known) before reading ends = absurd ends
+ended_early (Record p) (written text) before reading ends = absurd ends
+ended_early (Record p) (stopped known) before reading ends = (ends, refl)
+ended_early (Record p) (listed text known) before reading ends = absurd ends
+ended_early (status.Text n) (written text) before reading ends = absurd ends
+ended_early (status.Text n) (stopped known) before reading ends = (ends, refl)
+ended_early (status.Text n) (listed text known) before reading ends = absurd ends
+
+-- the same by octets that the shelf told
+pub ended_output : (f : List ℕ → Outcome) (was : Option (List ℕ)) (status : ReplayStatus) (before : Option (List ℕ)) → IsReadingStatus status
+    → IfSome was (λ octets. EndsWith status (f octets)) → IfSome was (λ octets. HasOutput status (f octets) before before)
+ended_output f None status before reading ends = tt
+ended_output f (Some octets) status before reading ends = ended_early status (f octets) before reading ends
+
+is_of_reading : (fault : RecordFault) → IsReadingStatus (status_of_fault fault)
+is_of_reading BadMagic = tt
+is_of_reading (BadKind k o) = tt
+is_of_reading (Cut o) = tt
+is_of_reading (TooLong o) = tt
+is_of_reading (TooManyEntries o) = tt
+is_of_reading ReadFault = tt
+is_of_reading Memory = tt
+
+-- a fault before the first entry ends the run, and nothing was written
+pub start_output : Stands → (t : TailoringParts) (q : Reading) (was rest before : Option (List ℕ)) (fault : RecordFault) → Answers (Err fault) reading_at_start was q rest
+    → IfSome was (λ octets. HasOutput (status_of_fault fault) (replay_outcome t octets) before before)
+start_output stands t q None rest before fault answer = tt
+start_output stands t q (Some octets) rest before fault answer =
+    ended_early (status_of_fault fault) (replay_outcome t octets) before (is_of_reading fault) (start_ends stands t q (Some octets) rest fault answer)
+
+-- where the shelf told its octets it still does
+pub still_told : (result : Result (Option (ℕ × Entry)) RecordFault) (r q : Reading) (was rest : Option (List ℕ)) → Answers result r was q rest → IsSome was → IsSome rest
+still_told result r q None rest answer told = absurd (none_told told)
+still_told result r q (Some octets) rest answer told = answer.1

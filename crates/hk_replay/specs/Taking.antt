@@ -1,6 +1,6 @@
 -- Entries as they are taken one after the other, after what stands for those before them.
-use Rattle.std.specs.Prelude.{◌≡◌, ℕ, List, [], ◌∷◌, Option, Some, None, Result, Ok, Err}
-use Rattle.session_record.specs.Records.{Entries}
+use Rattle.std.specs.Prelude.{◌≡◌, ◌<◌, ◌≤◌, ◌^◌, ℕ, List, [], ◌∷◌, length, Option, Some, None, IfSome, Result, Ok, Err}
+use Rattle.session_record.specs.Records.{Entries, held_octets, most_entries}
 use Rattle.session_record.specs.declared.header.Header.{Header}
 use Rattle.session_record.specs.declared.entry.Entry.{Entry}
 use Rattle.session_record.specs.declared.entry.RecordFault.{RecordFault}
@@ -31,6 +31,15 @@ entries_outcome s ((offset, e) ∷ later) fault = answered_outcome offset (entry
 abbrev pub rest_outcome : Standing → Result (Header × Entries) RecordFault → Outcome
 rest_outcome s (Err fault) = stopped (Record (problem.Format fault))
 rest_outcome s (Ok x) = entries_outcome s x.1.list x.1.fault
+
+-- the outcome of the first entry, if there is one, and of what is still to come after it
+abbrev pub first_outcome : Standing → Option (ℕ × Entry) → Result (Header × Entries) RecordFault → Outcome
+first_outcome s None rest = written (standing_text s)
+first_outcome s (Some x) rest = answered_outcome x.0 (entry_answer s x.1) (rest_outcome (with_entry s x.1) rest)
+
+-- an entry isn't too long, and with it there are no more entries than a record has
+abbrev pub FitsNext : Option (ℕ × Entry) → ℕ → Type 0
+FitsNext first others = IfSome first (λ x. (length (held_octets x.1) ≤ 2 ^ 31) × (others < most_entries))
 
 -- an entry was taken, or the run ends by it whatever follows
 abbrev pub Takes : Result Unit ReplayStatus → ℕ → Entry → Standing → Standing → Type 0

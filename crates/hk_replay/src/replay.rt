@@ -21,6 +21,7 @@ use crate::words::{Command, Job, RecordCommand, TailoringName, command_in};
 use hk_base::{Shelf, Sink, Tailoring};
 use record_commands::{encode, show, trimmed};
 use session_record::write_all;
+use session_texts::{records_of_worlds_have_no_problem, texts_are_true};
 use std::alloc::Global;
 
 /// Does what the words say. They are those after the program's name.
@@ -48,6 +49,9 @@ pub fn replay_main<F: Shelf, K: Sink>(
     // The headline: on the record of a world, whatever of it was lost, delayed, repeated or reordered, the text is true of what the board did there.
     ensures headline { (w : World) → IsWorld w → (t : TailoringParts) → w.session.protocol ≡ protocol t → (octets : List ℕ) → Replays (F.files shelf.old) (command_of (map string_bytes words.now)) t octets → IsRecordOf w octets → IsTrueRun w result (K.taken sink.old) (K.taken sink.new) }
 {
+    // Laws: they say what is so in each world, and do nothing.
+    records_of_worlds_have_no_problem();
+    texts_are_true();
     run(alloc, words, shelf, sink)
 }
 
@@ -135,7 +139,7 @@ fn under_tailoring<F: Shelf, K: Sink>(
     ensures room { (meant : Result TailoringParts TailoringFault) → StandsFor (F.files shelf.old) (named tailoring.entry) meant → IfSome (told_under (record_outcome (asked_of_record command)) (octets_of (F.files shelf.old) name.now) meant) (λ outcome. IfSome (K.room sink.old) (λ room. length (outcome_text outcome) ≤ room → K.faults sink.new ≡ K.faults sink.old)) }
 {
     match tailoring_of(alloc, tailoring, shelf) {
-        Ok(tailoring) => on_named(alloc, command, tailoring, name, shelf, sink),
+        Ok(tailoring) => on_named(alloc, command, &tailoring, name, shelf, sink),
         Err(status) => status,
     }
 }
@@ -144,7 +148,7 @@ fn under_tailoring<F: Shelf, K: Sink>(
 fn on_named<F: Shelf, K: Sink>(
     alloc: Global,
     command: RecordCommand,
-    tailoring: Tailoring,
+    tailoring: &Tailoring,
     name: &str,
     shelf: &mut F,
     sink: &mut K,
@@ -153,10 +157,10 @@ fn on_named<F: Shelf, K: Sink>(
     ensures read_fault { result ≡ ReplayStatus.ReadFault → HasRisen (F.faults shelf.old) (F.faults shelf.new) }
     ensures write_fault { result ≡ ReplayStatus.WriteFault → HasRisen (K.faults sink.old) (K.faults sink.new) }
     ensures nothing { WritesNothingOf (asked_of_record command) result (K.taken sink.old) (K.taken sink.new) }
-    ensures output { IfSome (octets_of (F.files shelf.old) name.now) (λ octets. HasOutput result (record_outcome (asked_of_record command) tailoring octets) (K.taken sink.old) (K.taken sink.new)) }
-    ensures given { IfSome (octets_of (F.files shelf.old) name.now) (λ octets. result ≡ ReplayStatus.ReadFault → HasGivenFrom (asked_of_record command) tailoring octets (F.rest shelf.old) (F.rest shelf.new) (K.taken sink.old) (K.taken sink.new)) }
+    ensures output { IfSome (octets_of (F.files shelf.old) name.now) (λ octets. HasOutput result (record_outcome (asked_of_record command) tailoring.now octets) (K.taken sink.old) (K.taken sink.new)) }
+    ensures given { IfSome (octets_of (F.files shelf.old) name.now) (λ octets. result ≡ ReplayStatus.ReadFault → HasGivenFrom (asked_of_record command) tailoring.now octets (F.rest shelf.old) (F.rest shelf.new) (K.taken sink.old) (K.taken sink.new)) }
     ensures sound { F.is_sound shelf.old → IsSome (octets_of (F.files shelf.old) name.now) → F.faults shelf.new ≡ F.faults shelf.old }
-    ensures room { IfSome (octets_of (F.files shelf.old) name.now) (λ octets. IfSome (K.room sink.old) (λ room. length (outcome_text (record_outcome (asked_of_record command) tailoring octets)) ≤ room → K.faults sink.new ≡ K.faults sink.old)) }
+    ensures room { IfSome (octets_of (F.files shelf.old) name.now) (λ octets. IfSome (K.room sink.old) (λ room. length (outcome_text (record_outcome (asked_of_record command) tailoring.now octets)) ≤ room → K.faults sink.new ≡ K.faults sink.old)) }
 {
     if shelf.select(name).is_err() {
         return ReplayStatus::ReadFault;
@@ -168,7 +172,7 @@ fn on_named<F: Shelf, K: Sink>(
 fn on_selected<F: Shelf, K: Sink>(
     alloc: Global,
     command: RecordCommand,
-    tailoring: Tailoring,
+    tailoring: &Tailoring,
     shelf: &mut F,
     sink: &mut K,
 ) -> ReplayStatus
@@ -176,14 +180,14 @@ fn on_selected<F: Shelf, K: Sink>(
     ensures read_fault { result ≡ ReplayStatus.ReadFault → HasRisen (F.faults shelf.old) (F.faults shelf.new) }
     ensures write_fault { result ≡ ReplayStatus.WriteFault → HasRisen (K.faults sink.old) (K.faults sink.new) }
     ensures nothing { WritesNothingOf (asked_of_record command) result (K.taken sink.old) (K.taken sink.new) }
-    ensures output { IfSome (F.rest shelf.old) (λ octets. HasOutput result (record_outcome (asked_of_record command) tailoring octets) (K.taken sink.old) (K.taken sink.new)) }
-    ensures given { IfSome (F.rest shelf.old) (λ octets. result ≡ ReplayStatus.ReadFault → HasGiven (asked_of_record command) tailoring octets (F.rest shelf.new) (K.taken sink.old) (K.taken sink.new)) }
+    ensures output { IfSome (F.rest shelf.old) (λ octets. HasOutput result (record_outcome (asked_of_record command) tailoring.now octets) (K.taken sink.old) (K.taken sink.new)) }
+    ensures given { IfSome (F.rest shelf.old) (λ octets. result ≡ ReplayStatus.ReadFault → HasGiven (asked_of_record command) tailoring.now octets (F.rest shelf.new) (K.taken sink.old) (K.taken sink.new)) }
     ensures sound { F.is_sound shelf.old → IsSome (F.rest shelf.old) → F.faults shelf.new ≡ F.faults shelf.old }
-    ensures room { IfSome (F.rest shelf.old) (λ octets. IfSome (K.room sink.old) (λ room. length (outcome_text (record_outcome (asked_of_record command) tailoring octets)) ≤ room → K.faults sink.new ≡ K.faults sink.old)) }
+    ensures room { IfSome (F.rest shelf.old) (λ octets. IfSome (K.room sink.old) (λ room. length (outcome_text (record_outcome (asked_of_record command) tailoring.now octets)) ≤ room → K.faults sink.new ≡ K.faults sink.old)) }
 {
     match command {
         RecordCommand::Replay => replayed(alloc, tailoring, shelf, sink),
-        RecordCommand::Show => shown(alloc, &tailoring, shelf, sink),
+        RecordCommand::Show => shown(alloc, tailoring, shelf, sink),
     }
 }
 

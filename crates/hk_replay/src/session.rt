@@ -4,9 +4,9 @@ ghost use Rattle.hk_base.specs.Outside.{HasRisen};
 ghost use Rattle.session_record.specs.Records.{held_octets, most_entries};
 ghost use Rattle.session_record.specs.Reading.{to_come};
 ghost use Rattle.decommutator.specs.Standing.{standing_text};
-ghost use Rattle.hk_replay.specs.Outcomes.{outcome_text, replay_outcome};
-ghost use Rattle.hk_replay.specs.Replay.{HasOutput, IsOfReading, ReadsTo, WritesNothingEarly};
-ghost use Rattle.hk_replay.specs.Taking.{rest_outcome, Takes, TakesRest};
+ghost use Rattle.hk_replay.specs.Outcomes.{outcome_text, written, replay_outcome};
+ghost use Rattle.hk_replay.specs.Replay.{HasOutput, IsOfReading, WritesNothingEarly};
+ghost use Rattle.hk_replay.specs.Taking.{first_outcome, rest_outcome, FitsNext, Takes, TakesRest};
 
 use crate::status::ReplayStatus;
 use decommutator::{Decommutator, entries_stand};
@@ -18,7 +18,7 @@ use std::alloc::Global;
 /// Writes the text of the record that the shelf has selected, when all of it was read.
 pub fn replayed<F: Shelf, K: Sink>(
     alloc: Global,
-    tailoring: Tailoring,
+    tailoring: &Tailoring,
     shelf: &mut F,
     sink: &mut K,
 ) -> ReplayStatus
@@ -26,14 +26,64 @@ pub fn replayed<F: Shelf, K: Sink>(
     ensures read_fault { result ≡ ReplayStatus.ReadFault → HasRisen (F.faults shelf.old) (F.faults shelf.new) }
     ensures write_fault { result ≡ ReplayStatus.WriteFault → HasRisen (K.faults sink.old) (K.faults sink.new) }
     ensures nothing { WritesNothingEarly result (K.taken sink.old) (K.taken sink.new) }
-    ensures output { IfSome (F.rest shelf.old) (λ octets. HasOutput result (replay_outcome tailoring octets) (K.taken sink.old) (K.taken sink.new)) }
+    ensures output { IfSome (F.rest shelf.old) (λ octets. HasOutput result (replay_outcome tailoring.now octets) (K.taken sink.old) (K.taken sink.new)) }
     ensures sound { F.is_sound shelf.old → IsSome (F.rest shelf.old) → F.faults shelf.new ≡ F.faults shelf.old }
-    ensures room { IfSome (F.rest shelf.old) (λ octets. IfSome (K.room sink.old) (λ room. length (outcome_text (replay_outcome tailoring octets)) ≤ room → K.faults sink.new ≡ K.faults sink.old)) }
+    ensures room { IfSome (F.rest shelf.old) (λ octets. IfSome (K.room sink.old) (λ room. length (outcome_text (replay_outcome tailoring.now octets)) ≤ room → K.faults sink.new ≡ K.faults sink.old)) }
 {
-    let session = match session_in(alloc, tailoring, shelf) {
-        Ok(session) => session,
-        Err(status) => return status,
+    // A law: it says what stands for entries, and does nothing.
+    entries_stand();
+    let Ok(mut reader) = RecordReader::new(alloc, PIECE_OCTETS) else {
+        return ReplayStatus::NoMemory;
     };
+    let first = match reader.next(shelf) {
+        Ok(first) => first,
+        Err(fault) => return fault.into(),
+    };
+    let Some(known) = reader.known_start() else {
+        unreachable!();
+    };
+    let Some(long) = reader.long_session() else {
+        unreachable!();
+    };
+    let Ok(tailoring) = tailoring.copy(alloc) else {
+        return ReplayStatus::NoMemory;
+    };
+    let mut session = Decommutator::new(alloc, tailoring, known, long);
+    all_written(&mut session, first, &mut reader, shelf, sink)
+}
+
+/// Takes the first entry, if there is one, and all that are still to come, and then writes the text.
+fn all_written<F: Shelf, K: Sink>(
+    session: &mut Decommutator,
+    first: Option<(u64, Entry)>,
+    reader: &mut RecordReader,
+    shelf: &mut F,
+    sink: &mut K,
+) -> ReplayStatus
+    requires { FitsNext first (session.old.standing.entries + reader.old.room) }
+    ensures used { result ≡ ReplayStatus.Usage → ⊥ }
+    ensures read_fault { result ≡ ReplayStatus.ReadFault → HasRisen (F.faults shelf.old) (F.faults shelf.new) }
+    ensures write_fault { result ≡ ReplayStatus.WriteFault → HasRisen (K.faults sink.old) (K.faults sink.new) }
+    ensures nothing { WritesNothingEarly result (K.taken sink.old) (K.taken sink.new) }
+    ensures output { IfSome (F.rest shelf.old) (λ octets. HasOutput result (first_outcome session.old.standing first (to_come reader.old octets)) (K.taken sink.old) (K.taken sink.new)) }
+    ensures sound { F.is_sound shelf.old → IsSome (F.rest shelf.old) → F.faults shelf.new ≡ F.faults shelf.old }
+    ensures room { IfSome (F.rest shelf.old) (λ octets. IfSome (K.room sink.old) (λ room. length (outcome_text (first_outcome session.old.standing first (to_come reader.old octets))) ≤ room → K.faults sink.new ≡ K.faults sink.old)) }
+{
+    if let Err(status) = take_all(session, first, reader, shelf) {
+        return status;
+    }
+    text_written(session, sink)
+}
+
+/// Writes the text of a session.
+fn text_written<K: Sink>(session: &Decommutator, sink: &mut K) -> ReplayStatus
+    ensures used { result ≡ ReplayStatus.Usage → ⊥ }
+    ensures read_fault { result ≡ ReplayStatus.ReadFault → ⊥ }
+    ensures write_fault { result ≡ ReplayStatus.WriteFault → HasRisen (K.faults sink.old) (K.faults sink.new) }
+    ensures nothing { WritesNothingEarly result (K.taken sink.old) (K.taken sink.new) }
+    ensures output { HasOutput result (written (standing_text session.now.standing)) (K.taken sink.old) (K.taken sink.new) }
+    ensures room { IfSome (K.room sink.old) (λ room. length (standing_text session.now.standing) ≤ room → K.faults sink.new ≡ K.faults sink.old) }
+{
     match session.finish(sink) {
         Ok(()) => ReplayStatus::Done,
         Err(WriteFault::Failed) => ReplayStatus::WriteFault,
@@ -41,32 +91,24 @@ pub fn replayed<F: Shelf, K: Sink>(
     }
 }
 
-/// The session of the record that the shelf has selected, or how the run ends without it.
-fn session_in<F: Shelf>(
-    alloc: Global,
-    tailoring: Tailoring,
+/// Takes the first entry, if there is one, and all that are still to come.
+fn take_all<F: Shelf>(
+    session: &mut Decommutator,
+    first: Option<(u64, Entry)>,
+    reader: &mut RecordReader,
     shelf: &mut F,
-) -> Result<Decommutator, ReplayStatus>
-    ensures outcome { IfSome (F.rest shelf.old) (λ octets. ReadsTo (λ session. standing_text session.standing) result (replay_outcome tailoring octets)) }
+) -> Result<(), ReplayStatus>
+    requires { FitsNext first (session.old.standing.entries + reader.old.room) }
+    ensures outcome { IfSome (F.rest shelf.old) (λ octets. TakesRest result session.new.standing (first_outcome session.old.standing first (to_come reader.old octets))) }
     ensures failed { IsErrOf result ReplayStatus.ReadFault → HasRisen (F.faults shelf.old) (F.faults shelf.new) }
     ensures sound { F.is_sound shelf.old → IsSome (F.rest shelf.old) → F.faults shelf.new ≡ F.faults shelf.old }
     ensures early { IsOfReading result }
 {
-    entries_stand();
-    let mut reader = RecordReader::new(alloc, PIECE_OCTETS)?;
-    let first = reader.next(shelf)?;
-    let Some(known) = reader.known_start() else {
-        unreachable!();
+    let Some((offset, entry)) = first else {
+        return Ok(());
     };
-    let Some(long) = reader.long_session() else {
-        unreachable!();
-    };
-    let mut session = Decommutator::new(alloc, tailoring, known, long);
-    if let Some((offset, entry)) = first {
-        take(&mut session, offset, &entry)?;
-        take_rest(&mut session, &mut reader, shelf)?;
-    }
-    Ok(session)
+    take(session, offset, &entry)?;
+    take_rest(session, reader, shelf)
 }
 
 /// Takes all entries that are still to come.

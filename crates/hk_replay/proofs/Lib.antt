@@ -1,6 +1,5 @@
-pub mod LineLemmas
-pub mod EntryLemmas
-pub mod BlockLemmas
+pub mod SessionLemmas
+pub mod TakingLemmas
 pub mod HeadlineLemmas
 pub mod ShownLemmas
 pub mod TailoringLemmas

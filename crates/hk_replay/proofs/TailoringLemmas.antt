@@ -8,7 +8,7 @@ use Rattle.hk_tailoring.specs.Widths.{AreWidths}
 use Rattle.hk_tailoring.specs.Files.{document, file_fault, tree_of, IsOf, Stands}
 use Rattle.hk_tailoring.specs.declared.fault.TailoringFault.{TailoringFault}
 use Rattle.hk_tailoring.specs.declared.fault.TailoringFault.TheVariants as fault
-use Rattle.hk_replay.specs.Transcripts.{Outcome, written, stopped}
+use Rattle.hk_replay.specs.Outcomes.{Outcome, written, stopped}
 use Rattle.hk_replay.specs.Replay.{EndsWith}
 use Rattle.hk_replay.specs.Faults.{status_of_tailoring}
 use Rattle.hk_replay.specs.Inputs.{most_file_octets, IsMeaning, IsMeant}
@@ -119,7 +119,6 @@ free_end (status.Tailoring f) h outcome = absurd h
 free_end (status.Record p) h outcome = absurd h
 free_end status.WriteFault h outcome = absurd h
 free_end (status.Text line) h outcome = absurd h
-free_end status.NotBuilt h outcome = absurd h
 
 pub free_meant : (s : ReplayStatus) → EndsWith s (written []) → (meant : Result TailoringParts TailoringFault) → IsMeant (Err s) meant
 free_meant s h (Ok t) = h

@@ -1,9 +1,11 @@
 -- A command without where its words lie in memory.
 use Rattle.hk_replay.specs.Words as words
 use Rattle.hk_replay.specs.declared.words.Command.{Command}
-use Rattle.hk_replay.specs.declared.words.Command.TheVariants.{Make, Show}
+use Rattle.hk_replay.specs.declared.words.Command.TheVariants.{Make, OnRecord}
 use Rattle.hk_replay.specs.declared.words.Job.{Job}
-use Rattle.hk_replay.specs.declared.words.Job.TheVariants.{Replay, Encode, Check, Trim}
+use Rattle.hk_replay.specs.declared.words.Job.TheVariants.{Encode, Check, Trim}
+use Rattle.hk_replay.specs.declared.words.RecordCommand.{RecordCommand}
+use Rattle.hk_replay.specs.declared.words.RecordCommand.TheVariants.{Replay, Show}
 use Rattle.hk_replay.specs.declared.words.TailoringName.{TailoringName}
 use Rattle.hk_replay.specs.declared.words.TailoringName.TheVariants.{Builtin, File}
 
@@ -14,12 +16,16 @@ named (File name) = words.in_file name.now
 
 -- what is made of the inputs
 abbrev pub asked_job : Job → words.Command
-asked_job (Replay tailoring name) = words.replay (named tailoring) name.now
 asked_job (Encode tailoring name) = words.encode (named tailoring) name.now
 asked_job (Check tailoring) = words.check (named tailoring)
 asked_job (Trim name) = words.trim name.now
 
+-- what is done with a record
+abbrev pub asked_of_record : RecordCommand → words.RecordCommand
+asked_of_record Replay = words.replay
+asked_of_record Show = words.show
+
 -- what a run is asked to do
 abbrev pub asked : Command → words.Command
 asked (Make job) = asked_job job
-asked (Show tailoring name) = words.show (named tailoring) name.now
+asked (OnRecord command tailoring name) = words.on_record (asked_of_record command) (named tailoring) name.now

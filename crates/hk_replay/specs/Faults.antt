@@ -12,9 +12,12 @@ use Rattle.record_commands.specs.declared.showing.ShowFault.{ShowFault}
 use Rattle.record_commands.specs.declared.showing.ShowFault.TheVariants as showing
 use Rattle.record_commands.specs.declared.encoding.EncodeFault.{EncodeFault}
 use Rattle.record_commands.specs.declared.encoding.EncodeFault.TheVariants as encoding
-use Rattle.hk_replay.specs.declared.status.RecordProblem.TheVariants.{Format}
+use Rattle.ground_history.specs.declared.answer.SentFault.{SentFault}
+use Rattle.ground_history.specs.declared.answer.SentFault.TheVariants as sent
+use Rattle.session_texts.specs.declared.problem.RecordProblem.{RecordProblem}
+use Rattle.session_texts.specs.declared.problem.RecordProblem.TheVariants.{Format, Entry}
 use Rattle.hk_replay.specs.declared.status.ReplayStatus.{ReplayStatus}
-use Rattle.hk_replay.specs.declared.status.ReplayStatus.TheVariants.{Done, Usage, Tailoring, Record, ReadFault, WriteFault, NoMemory, Text, NotBuilt}
+use Rattle.hk_replay.specs.declared.status.ReplayStatus.TheVariants.{Done, Usage, Tailoring, Record, ReadFault, WriteFault, NoMemory, Text}
 
 -- the exit status of the program
 abbrev pub status_number : ReplayStatus → ℕ
@@ -26,7 +29,6 @@ status_number ReadFault = 5
 status_number WriteFault = 6
 status_number NoMemory = 7
 status_number (Text line) = 8
-status_number NotBuilt = 20
 
 -- how a run ends by a fault of reading the record: a failing shelf and want of memory have statuses of their own
 abbrev pub status_of_fault : RecordFault → ReplayStatus
@@ -37,6 +39,15 @@ status_of_fault (fault.BadKind octet offset) = Record (Format (fault.BadKind oct
 status_of_fault (fault.Cut offset) = Record (Format (fault.Cut offset))
 status_of_fault (fault.TooLong offset) = Record (Format (fault.TooLong offset))
 status_of_fault (fault.TooManyEntries offset) = Record (Format (fault.TooManyEntries offset))
+
+-- how a run ends by a request that can't stand in the entry at an offset: want of memory has a status of its own
+abbrev pub status_of_entry : SentFault → ℕ → ReplayStatus
+status_of_entry sent.Memory offset = NoMemory
+status_of_entry sent.BadRequest offset = Record (Entry sent.BadRequest offset)
+status_of_entry (sent.WrongCount expected found) offset = Record (Entry (sent.WrongCount expected found) offset)
+status_of_entry (sent.Reused count) offset = Record (Entry (sent.Reused count) offset)
+status_of_entry sent.SessionFull offset = Record (Entry sent.SessionFull offset)
+status_of_entry (sent.WindowFull number) offset = Record (Entry (sent.WindowFull number) offset)
 
 -- how a run ends by a fault of reading a whole input
 abbrev pub status_of_input : InputFault → ReplayStatus
@@ -69,14 +80,28 @@ format_text (fault.TooManyEntries offset) = codes "record: too many entries at "
 format_text fault.ReadFault = codes "read fault"
 format_text fault.Memory = codes "no memory"
 
+-- the text of a request that can't stand in the entry at an offset: of two counts, the one that was found comes first
+abbrev pub entry_text : SentFault → ℕ → List ℕ
+entry_text sent.BadRequest offset = codes "record: bad request at " ++ decimal offset
+entry_text (sent.WrongCount expected found) offset =
+    codes "record: wrong count " ++ (decimal found ++ (codes " for " ++ (decimal expected ++ (codes " at " ++ decimal offset))))
+entry_text (sent.Reused count) offset = codes "record: reused count " ++ (decimal count ++ (codes " at " ++ decimal offset))
+entry_text sent.SessionFull offset = codes "record: session full at " ++ decimal offset
+entry_text (sent.WindowFull number) offset = codes "record: window full at " ++ decimal offset
+entry_text sent.Memory offset = codes "no memory"
+
+-- the text of what is wrong with a record
+abbrev pub problem_text : RecordProblem → List ℕ
+problem_text (Format f) = format_text f
+problem_text (Entry f offset) = entry_text f offset
+
 -- what is printed of a status
 abbrev pub fault_text : ReplayStatus → List ℕ
 fault_text Done = []
 fault_text Usage = codes "usage"
 fault_text (Tailoring f) = codes "tailoring: " ++ tailoring_text f
-fault_text (Record (Format f)) = format_text f
+fault_text (Record problem) = problem_text problem
 fault_text ReadFault = codes "read fault"
 fault_text WriteFault = codes "write fault"
 fault_text NoMemory = codes "no memory"
 fault_text (Text line) = codes "line " ++ decimal line
-fault_text NotBuilt = codes "not built"

@@ -10,8 +10,8 @@ use Rattle.hk_tailoring.specs.declared.fault.TailoringFault.{TailoringFault}
 use Rattle.hk_tailoring.specs.declared.fault.TailoringFault.TheVariants.{TooLong}
 use Rattle.record_commands.specs.Input.{IsEndOf}
 use Rattle.record_commands.specs.Showing.{IsShownAsGiven}
-use Rattle.hk_replay.specs.Words.{TailoringName, standard, in_file, Command, replay, show, encode, check, trim}
-use Rattle.hk_replay.specs.Transcripts.{Outcome, written, stopped, replay_outcome, show_outcome, encode_outcome, trim_outcome}
+use Rattle.hk_replay.specs.Words.{TailoringName, standard, in_file, RecordCommand, replay, show, Command, on_record, encode, check, trim}
+use Rattle.hk_replay.specs.Outcomes.{Outcome, written, stopped, record_outcome, encode_outcome, trim_outcome}
 use Rattle.hk_replay.specs.Replay.{EndsWith}
 use Rattle.hk_replay.specs.declared.status.ReplayStatus.{ReplayStatus}
 use Rattle.hk_replay.specs.declared.status.ReplayStatus.TheVariants.{Tailoring}
@@ -70,8 +70,7 @@ TellsUnder outcome files tailoring name told = (meant : Result TailoringParts Ta
 
 -- the files tell the outcome of a command, if all goes well
 abbrev pub Tells : Option (List (List ℕ × List ℕ)) → Command → Outcome → Type 0
-Tells files (replay tailoring name) outcome = TellsUnder replay_outcome files tailoring name outcome
-Tells files (show tailoring name) outcome = TellsUnder show_outcome files tailoring name outcome
+Tells files (on_record command tailoring name) outcome = TellsUnder (record_outcome command) files tailoring name outcome
 Tells files (encode tailoring name) outcome = TellsUnder encode_outcome files tailoring name outcome
 Tells files (check tailoring) outcome = (meant : Result TailoringParts TailoringFault) × StandsFor files tailoring meant × (check_outcome meant ≡ outcome)
 Tells files (trim name) outcome = option_map trim_outcome (octets_of files name) ≡ Some outcome
@@ -83,29 +82,34 @@ TellsOf files (Some command) outcome = Tells files command outcome
 
 -- words say to replay these octets under this tailoring
 abbrev pub Replays : Option (List (List ℕ × List ℕ)) → Option Command → TailoringParts → List ℕ → Type 0
-Replays files (Some (replay tailoring name)) t octets = StandsFor files tailoring (Ok t) × (octets_of files name ≡ Some octets)
+Replays files (Some (on_record replay tailoring name)) t octets = StandsFor files tailoring (Ok t) × (octets_of files name ≡ Some octets)
 Replays files command t octets = ⊥
 
--- words say to show these octets under this tailoring
-abbrev pub ShowsRecord : Option (List (List ℕ × List ℕ)) → Option Command → TailoringParts → List ℕ → Type 0
-ShowsRecord files (Some (show tailoring name)) t octets = StandsFor files tailoring (Ok t) × (octets_of files name ≡ Some octets)
-ShowsRecord files command t octets = ⊥
+-- words say to do something with these octets, as a record, under this tailoring
+abbrev pub NamesRecord : Option (List (List ℕ × List ℕ)) → Option Command → TailoringParts → List ℕ → Type 0
+NamesRecord files (Some (on_record command tailoring name)) t octets = StandsFor files tailoring (Ok t) × (octets_of files name ≡ Some octets)
+NamesRecord files command t octets = ⊥
 
 -- the shelf stands where it stood at the start, or else in the file of the tailoring
 abbrev pub IsBeforeRecord : Option (List (List ℕ × List ℕ)) → TailoringName → Option (List ℕ) → Option (List ℕ) → Type 0
 IsBeforeRecord files standard before now = now ≡ before
 IsBeforeRecord files (in_file name) before now = (now ≡ before) ⊎ IsEndOf (octets_of files name) now
 
--- what was written before the shelf failed that was to select a record: nothing, where it didn't; else the lines of every entry whose octets it gave in full
-abbrev pub HasShownFrom : TailoringParts → List ℕ → Option (List ℕ) → Option (List ℕ) → Option (List ℕ) → Option (List ℕ) → Type 0
-HasShownFrom t octets start left before after = ((left ≡ start) × (after ≡ before)) ⊎ IsShownAsGiven t octets left before after
+-- What was written before the shelf failed, where it had given a part of the record: nothing, or the lines of every entry whose octets it gave in full.
+abbrev pub HasGiven : RecordCommand → TailoringParts → List ℕ → Option (List ℕ) → Option (List ℕ) → Option (List ℕ) → Type 0
+HasGiven replay t octets left before after = after ≡ before
+HasGiven show t octets left before after = IsShownAsGiven t octets left before after
 
--- What `show` wrote before the shelf failed: nothing, where the record wasn't selected; else the lines of every entry whose octets the shelf gave in full.
-abbrev pub HasShownBefore : Option (List (List ℕ × List ℕ)) → TailoringName → TailoringParts → List ℕ → Option (List ℕ) → Option (List ℕ) → Option (List ℕ) → Option (List ℕ) → Type 0
-HasShownBefore files tailoring t octets start left before after =
-    (IsBeforeRecord files tailoring start left × (after ≡ before)) ⊎ IsShownAsGiven t octets left before after
+-- the same where the record was to be selected before
+abbrev pub HasGivenFrom : RecordCommand → TailoringParts → List ℕ → Option (List ℕ) → Option (List ℕ) → Option (List ℕ) → Option (List ℕ) → Type 0
+HasGivenFrom command t octets start left before after = ((left ≡ start) × (after ≡ before)) ⊎ HasGiven command t octets left before after
 
--- the same of words that are to show a record
-abbrev pub HasShown : Option (List (List ℕ × List ℕ)) → Option Command → TailoringParts → List ℕ → Option (List ℕ) → Option (List ℕ) → Option (List ℕ) → Option (List ℕ) → Type 0
-HasShown files (Some (show tailoring name)) t octets start left before after = HasShownBefore files tailoring t octets start left before after
-HasShown files command t octets start left before after = ⊤
+-- the same where the tailoring was to be read before that
+abbrev pub HasGivenUnder : RecordCommand → Option (List (List ℕ × List ℕ)) → TailoringName → TailoringParts → List ℕ → Option (List ℕ) → Option (List ℕ) → Option (List ℕ) → Option (List ℕ) → Type 0
+HasGivenUnder command files tailoring t octets start left before after =
+    (IsBeforeRecord files tailoring start left × (after ≡ before)) ⊎ HasGiven command t octets left before after
+
+-- the same of words that name a record
+abbrev pub HasGivenOf : Option (List (List ℕ × List ℕ)) → Option Command → TailoringParts → List ℕ → Option (List ℕ) → Option (List ℕ) → Option (List ℕ) → Option (List ℕ) → Type 0
+HasGivenOf files (Some (on_record command tailoring name)) t octets start left before after = HasGivenUnder command files tailoring t octets start left before after
+HasGivenOf files command t octets start left before after = ⊤

@@ -1,6 +1,6 @@
 pub mod Faults
-pub mod Blocks
-pub mod Transcripts
+pub mod Outcomes
+pub mod Taking
 pub mod Words
 pub mod Asked
 pub mod Replay

@@ -1,9 +1,8 @@
 -- What the program promises of one run.
-use Rattle.std.specs.Prelude.{◌≡◌, ⊤, ℕ, List, Option, Some, Result, Ok, Err, IfSome, IfErr}
-use Rattle.session_record.specs.declared.header.Header.{Header}
-use Rattle.hk_replay.specs.Transcripts.{Lines, Outcome, written, stopped, listed, ended}
+use Rattle.std.specs.Prelude.{◌≡◌, ⊤, ℕ, List, Option, Some, Result, Ok, Err, IfErr}
 use Rattle.session_record.specs.Written.{IsWritten, IsPrefixWritten}
-use Rattle.hk_replay.specs.Words.{Command, show}
+use Rattle.hk_replay.specs.Outcomes.{Outcome, written, stopped, listed}
+use Rattle.hk_replay.specs.Words.{Command, RecordCommand, on_record, replay, show}
 use Rattle.hk_replay.specs.declared.status.ReplayStatus.{ReplayStatus}
 use Rattle.hk_replay.specs.declared.status.ReplayStatus.TheVariants.{Done, Usage, Record, ReadFault, WriteFault, NoMemory}
 
@@ -19,11 +18,6 @@ EndsWith status (listed text known) = ⊥
 abbrev pub ReadsTo : {X : Type 0} → (X → List ℕ) → Result X ReplayStatus → Outcome → Type 0
 ReadsTo text (Ok x) outcome = outcome ≡ written (text x)
 ReadsTo text (Err status) outcome = EndsWith status outcome
-
--- the entries were read to their end, and a header before them
-abbrev pub EndsTo : Result (Option Lines) ReplayStatus → Option Header → Outcome → Type 0
-EndsTo (Ok lines) header outcome = IfSome header (λ h. outcome ≡ ended h lines)
-EndsTo (Err status) header outcome = EndsWith status outcome
 
 -- a status with which nothing is written
 abbrev pub IsEarlyStatus : ReplayStatus → Type 0
@@ -53,9 +47,14 @@ WritesNothingElse (Record problem) before after = ⊤
 WritesNothingElse ReadFault before after = ⊤
 WritesNothingElse status before after = WritesNothingEarly status before after
 
--- Nothing was written with most statuses. `show` alone writes while it reads.
+-- The same by what is done with a record: `show` alone writes while it reads.
+abbrev pub WritesNothingOf : RecordCommand → ReplayStatus → Option (List ℕ) → Option (List ℕ) → Type 0
+WritesNothingOf replay status before after = WritesNothingEarly status before after
+WritesNothingOf show status before after = WritesNothingElse status before after
+
+-- nothing was written with most statuses
 abbrev pub WritesNothing : Option Command → ReplayStatus → Option (List ℕ) → Option (List ℕ) → Type 0
-WritesNothing (Some (show tailoring name)) status before after = WritesNothingElse status before after
+WritesNothing (Some (on_record command tailoring name)) status before after = WritesNothingOf command status before after
 WritesNothing command status before after = WritesNothingEarly status before after
 
 -- what was written of lines, by the status and the status that was to come after the last of them: all of them, or a first part

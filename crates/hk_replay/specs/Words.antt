@@ -7,10 +7,14 @@ pub data TailoringName : Type 0 where
   standard : TailoringName
   in_file : List ℕ → TailoringName
 
--- what a run is asked to do: to replay or to show the record of this name under a tailoring, to make a record of the lines of this name, to check a tailoring, or to trim the record of this name
+-- what is done with a record under a tailoring: the text of its session is written when all of it was read, or a line for each entry as it is read
+pub data RecordCommand : Type 0 where
+  replay : RecordCommand
+  show : RecordCommand
+
+-- what a run is asked to do: something with the record of this name under a tailoring, to make a record of the lines of this name, to check a tailoring, or to trim the record of this name
 pub data Command : Type 0 where
-  replay : TailoringName → List ℕ → Command
-  show : TailoringName → List ℕ → Command
+  on_record : RecordCommand → TailoringName → List ℕ → Command
   encode : TailoringName → List ℕ → Command
   check : TailoringName → Command
   trim : List ℕ → Command
@@ -26,8 +30,8 @@ tailoring_named word = if is_word (codes "builtin") word then standard else in_f
 -- the command of a form with a tailoring and another input, if it is one of `replay`, `show` and `encode`
 abbrev pub command_with : List ℕ → TailoringName → List ℕ → Option Command
 command_with form tailoring name =
-    if is_word (codes "replay") form then Some (replay tailoring name)
-    else if is_word (codes "show") form then Some (show tailoring name)
+    if is_word (codes "replay") form then Some (on_record replay tailoring name)
+    else if is_word (codes "show") form then Some (on_record show tailoring name)
     else if is_word (codes "encode") form then Some (encode tailoring name)
     else None
 

@@ -1,19 +1,15 @@
 //! The ground's decoder of housekeeping reports.
 #![tactic(auto)]
 
-mod lines;
 mod outside;
-mod record;
 mod replay;
+mod session;
 mod status;
 mod tailorings;
 #[cfg(test)]
 mod tests;
 #[cfg(test)]
 mod tests_below;
-#[cfg(test)]
-mod tests_entries;
-mod transcript;
 mod words;
 
 use crate::outside::{FileShelf, OutSink};

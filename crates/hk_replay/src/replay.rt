@@ -5,24 +5,23 @@ ghost use Rattle.hk_base.specs.Outside.{HasRisen};
 ghost use Rattle.hk_base.specs.TailoringParts.{TailoringParts};
 ghost use Rattle.hk_tailoring.specs.declared.fault.TailoringFault.{TailoringFault};
 ghost use Rattle.pus_messages.specs.Messages.{protocol};
-ghost use Rattle.hk_world.specs.Timelines.{tailoring};
 ghost use Rattle.hk_world.specs.Worlds.{World, IsWorld};
-ghost use Rattle.hk_world.specs.Undisturbed.{IsUndisturbed};
 ghost use Rattle.hk_replay.specs.Truth.{IsRecordOf, IsTrueRun};
 ghost use Rattle.hk_replay.specs.Words.{command_of};
-ghost use Rattle.hk_replay.specs.Asked.{asked_job, named};
-ghost use Rattle.hk_replay.specs.Transcripts.{Outcome, outcome_text, replay_outcome, show_outcome, encode_outcome, trim_outcome};
-ghost use Rattle.hk_replay.specs.Replay.{HasOutput, WritesNothing, WritesNothingEarly, WritesNothingElse, ReadsTo, IsOfReading};
-ghost use Rattle.hk_replay.specs.Inputs.{octets_of, StandsFor, told_under, check_outcome, Tells, TellsOf, Replays, ShowsRecord, HasShown, HasShownBefore, HasShownFrom};
-ghost use Rattle.record_commands.specs.Showing.{show_text};
+ghost use Rattle.hk_replay.specs.Asked.{asked_job, asked_of_record, named};
+ghost use Rattle.hk_replay.specs.Outcomes.{Outcome, outcome_text, record_outcome, show_outcome, encode_outcome, trim_outcome};
+ghost use Rattle.hk_replay.specs.Replay.{HasOutput, WritesNothing, WritesNothingEarly, WritesNothingElse, WritesNothingOf, ReadsTo, IsOfReading};
+ghost use Rattle.hk_replay.specs.Inputs.{octets_of, StandsFor, told_under, check_outcome, Tells, TellsOf, Replays, NamesRecord, HasGiven, HasGivenFrom, HasGivenUnder, HasGivenOf};
+ghost use Rattle.record_commands.specs.Showing.{IsShownAsGiven};
 
-use crate::record::replayed;
+use crate::session::replayed;
 use crate::status::ReplayStatus;
 use crate::tailorings::{check_line, tailoring_of};
-use crate::words::{Command, Job, TailoringName, command_in};
+use crate::words::{Command, Job, RecordCommand, TailoringName, command_in};
 use hk_base::{Shelf, Sink, Tailoring};
 use record_commands::{encode, show, trimmed};
 use session_record::write_all;
+use session_texts::{records_of_worlds_have_no_problem, texts_are_true};
 use std::alloc::Global;
 
 /// Does what the words say. They are those after the program's name.
@@ -41,16 +40,18 @@ pub fn replay_main<F: Shelf, K: Sink>(
     ensures nothing { WritesNothing (command_of (map string_bytes words.now)) result (K.taken sink.old) (K.taken sink.new) }
     ensures output { (outcome : Outcome) → TellsOf (F.files shelf.old) (command_of (map string_bytes words.now)) outcome → HasOutput result outcome (K.taken sink.old) (K.taken sink.new) }
     // Where the shelf fails while a record is shown, each line of an entry that it gave in full was written before.
-    ensures given { (t : TailoringParts) → (octets : List ℕ) → ShowsRecord (F.files shelf.old) (command_of (map string_bytes words.now)) t octets → result ≡ ReplayStatus.ReadFault → HasShown (F.files shelf.old) (command_of (map string_bytes words.now)) t octets (F.rest shelf.old) (F.rest shelf.new) (K.taken sink.old) (K.taken sink.new) }
+    ensures given { (t : TailoringParts) → (octets : List ℕ) → NamesRecord (F.files shelf.old) (command_of (map string_bytes words.now)) t octets → result ≡ ReplayStatus.ReadFault → HasGivenOf (F.files shelf.old) (command_of (map string_bytes words.now)) t octets (F.rest shelf.old) (F.rest shelf.new) (K.taken sink.old) (K.taken sink.new) }
 
     // A sound shelf that has the record isn't made to fail, nor is a sink with room for the text.
     ensures sound { F.is_sound shelf.old → (outcome : Outcome) → TellsOf (F.files shelf.old) (command_of (map string_bytes words.now)) outcome → F.faults shelf.new ≡ F.faults shelf.old }
     ensures room { (outcome : Outcome) → TellsOf (F.files shelf.old) (command_of (map string_bytes words.now)) outcome → IfSome (K.room sink.old) (λ room. length (outcome_text outcome) ≤ room → K.faults sink.new ≡ K.faults sink.old) }
 
-    // The headline: on the record of a world in which nothing is commanded, whatever of it was lost, each value that is written is the sample that the
-    // board took for that parameter and slot under the definition in force, and each report that was delivered is decided.
-    ensures headline { (w : World) → IsWorld w → w.session.protocol ≡ protocol (tailoring w.session) → IsUndisturbed w → (octets : List ℕ) → Replays (F.files shelf.old) (command_of (map string_bytes words.now)) (tailoring w.session) octets → IsRecordOf w octets → IsTrueRun w result (K.taken sink.old) (K.taken sink.new) }
+    // The headline: on the record of a world, whatever of it was lost, delayed, repeated or reordered, the text is true of what the board did there.
+    ensures headline { (w : World) → IsWorld w → (t : TailoringParts) → w.session.protocol ≡ protocol t → (octets : List ℕ) → Replays (F.files shelf.old) (command_of (map string_bytes words.now)) t octets → IsRecordOf w octets → IsTrueRun w result (K.taken sink.old) (K.taken sink.new) }
 {
+    // Laws: they say what is so in each world, and do nothing.
+    records_of_worlds_have_no_problem();
+    texts_are_true();
     run(alloc, words, shelf, sink)
 }
 
@@ -70,7 +71,7 @@ fn run<F: Shelf, K: Sink>(
     ensures nothing { WritesNothing (command_of (map string_bytes words.now)) result (K.taken sink.old) (K.taken sink.new) }
     ensures output { (outcome : Outcome) → TellsOf (F.files shelf.old) (command_of (map string_bytes words.now)) outcome → HasOutput result outcome (K.taken sink.old) (K.taken sink.new) }
     // Where the shelf fails while a record is shown, each line of an entry that it gave in full was written before.
-    ensures given { (t : TailoringParts) → (octets : List ℕ) → ShowsRecord (F.files shelf.old) (command_of (map string_bytes words.now)) t octets → result ≡ ReplayStatus.ReadFault → HasShown (F.files shelf.old) (command_of (map string_bytes words.now)) t octets (F.rest shelf.old) (F.rest shelf.new) (K.taken sink.old) (K.taken sink.new) }
+    ensures given { (t : TailoringParts) → (octets : List ℕ) → NamesRecord (F.files shelf.old) (command_of (map string_bytes words.now)) t octets → result ≡ ReplayStatus.ReadFault → HasGivenOf (F.files shelf.old) (command_of (map string_bytes words.now)) t octets (F.rest shelf.old) (F.rest shelf.new) (K.taken sink.old) (K.taken sink.new) }
 
     // A sound shelf that has the record isn't made to fail, nor is a sink with room for the text.
     ensures sound { F.is_sound shelf.old → (outcome : Outcome) → TellsOf (F.files shelf.old) (command_of (map string_bytes words.now)) outcome → F.faults shelf.new ≡ F.faults shelf.old }
@@ -79,7 +80,9 @@ fn run<F: Shelf, K: Sink>(
     match command_in(words) {
         None => ReplayStatus::Usage,
         Some(Command::Make(job)) => made(alloc, job, shelf, sink),
-        Some(Command::Show(tailoring, name)) => shown(alloc, tailoring, name, shelf, sink),
+        Some(Command::OnRecord(command, tailoring, name)) => {
+            under_tailoring(alloc, command, tailoring, name, shelf, sink)
+        }
     }
 }
 
@@ -111,16 +114,16 @@ fn job_text<F: Shelf>(alloc: Global, job: Job<'_>, shelf: &mut F) -> Result<Vec<
     ensures early { IsOfReading result }
 {
     match job {
-        Job::Replay(tailoring, name) => replayed_text(alloc, tailoring, name, shelf),
         Job::Encode(tailoring, name) => encoded_text(alloc, tailoring, name, shelf),
         Job::Check(tailoring) => checked_text(alloc, tailoring, shelf),
         Job::Trim(name) => trimmed_text(alloc, name, shelf),
     }
 }
 
-/// Writes a line for each entry of the record of this name, before the next one is read.
-fn shown<F: Shelf, K: Sink>(
+/// Does what a command says with the record of this name under a tailoring.
+fn under_tailoring<F: Shelf, K: Sink>(
     alloc: Global,
+    command: RecordCommand,
     tailoring: TailoringName<'_>,
     name: &str,
     shelf: &mut F,
@@ -129,21 +132,22 @@ fn shown<F: Shelf, K: Sink>(
     ensures used { result ≡ ReplayStatus.Usage → ⊥ }
     ensures read_fault { result ≡ ReplayStatus.ReadFault → HasRisen (F.faults shelf.old) (F.faults shelf.new) }
     ensures write_fault { result ≡ ReplayStatus.WriteFault → HasRisen (K.faults sink.old) (K.faults sink.new) }
-    ensures nothing { WritesNothingElse result (K.taken sink.old) (K.taken sink.new) }
-    ensures output { (meant : Result TailoringParts TailoringFault) → StandsFor (F.files shelf.old) (named tailoring.entry) meant → IfSome (told_under show_outcome (octets_of (F.files shelf.old) name.now) meant) (λ outcome. HasOutput result outcome (K.taken sink.old) (K.taken sink.new)) }
-    ensures given { (t : TailoringParts) → (octets : List ℕ) → StandsFor (F.files shelf.old) (named tailoring.entry) (Ok t) → octets_of (F.files shelf.old) name.now ≡ Some octets → result ≡ ReplayStatus.ReadFault → HasShownBefore (F.files shelf.old) (named tailoring.entry) t octets (F.rest shelf.old) (F.rest shelf.new) (K.taken sink.old) (K.taken sink.new) }
-    ensures sound { F.is_sound shelf.old → (meant : Result TailoringParts TailoringFault) → StandsFor (F.files shelf.old) (named tailoring.entry) meant → IsSome (told_under show_outcome (octets_of (F.files shelf.old) name.now) meant) → F.faults shelf.new ≡ F.faults shelf.old }
-    ensures room { (meant : Result TailoringParts TailoringFault) → StandsFor (F.files shelf.old) (named tailoring.entry) meant → IfSome (told_under show_outcome (octets_of (F.files shelf.old) name.now) meant) (λ outcome. IfSome (K.room sink.old) (λ room. length (outcome_text outcome) ≤ room → K.faults sink.new ≡ K.faults sink.old)) }
+    ensures nothing { WritesNothingOf (asked_of_record command) result (K.taken sink.old) (K.taken sink.new) }
+    ensures output { (meant : Result TailoringParts TailoringFault) → StandsFor (F.files shelf.old) (named tailoring.entry) meant → IfSome (told_under (record_outcome (asked_of_record command)) (octets_of (F.files shelf.old) name.now) meant) (λ outcome. HasOutput result outcome (K.taken sink.old) (K.taken sink.new)) }
+    ensures given { (t : TailoringParts) → (octets : List ℕ) → StandsFor (F.files shelf.old) (named tailoring.entry) (Ok t) → octets_of (F.files shelf.old) name.now ≡ Some octets → result ≡ ReplayStatus.ReadFault → HasGivenUnder (asked_of_record command) (F.files shelf.old) (named tailoring.entry) t octets (F.rest shelf.old) (F.rest shelf.new) (K.taken sink.old) (K.taken sink.new) }
+    ensures sound { F.is_sound shelf.old → (meant : Result TailoringParts TailoringFault) → StandsFor (F.files shelf.old) (named tailoring.entry) meant → IsSome (told_under (record_outcome (asked_of_record command)) (octets_of (F.files shelf.old) name.now) meant) → F.faults shelf.new ≡ F.faults shelf.old }
+    ensures room { (meant : Result TailoringParts TailoringFault) → StandsFor (F.files shelf.old) (named tailoring.entry) meant → IfSome (told_under (record_outcome (asked_of_record command)) (octets_of (F.files shelf.old) name.now) meant) (λ outcome. IfSome (K.room sink.old) (λ room. length (outcome_text outcome) ≤ room → K.faults sink.new ≡ K.faults sink.old)) }
 {
     match tailoring_of(alloc, tailoring, shelf) {
-        Ok(tailoring) => record_shown(alloc, &tailoring, name, shelf, sink),
+        Ok(tailoring) => on_named(alloc, command, &tailoring, name, shelf, sink),
         Err(status) => status,
     }
 }
 
-/// Writes a line for each entry of the record of this name.
-fn record_shown<F: Shelf, K: Sink>(
+/// Does what a command says with the record of this name.
+fn on_named<F: Shelf, K: Sink>(
     alloc: Global,
+    command: RecordCommand,
     tailoring: &Tailoring,
     name: &str,
     shelf: &mut F,
@@ -152,56 +156,61 @@ fn record_shown<F: Shelf, K: Sink>(
     ensures used { result ≡ ReplayStatus.Usage → ⊥ }
     ensures read_fault { result ≡ ReplayStatus.ReadFault → HasRisen (F.faults shelf.old) (F.faults shelf.new) }
     ensures write_fault { result ≡ ReplayStatus.WriteFault → HasRisen (K.faults sink.old) (K.faults sink.new) }
-    ensures nothing { WritesNothingElse result (K.taken sink.old) (K.taken sink.new) }
-    ensures output { IfSome (octets_of (F.files shelf.old) name.now) (λ octets. HasOutput result (show_outcome tailoring.now octets) (K.taken sink.old) (K.taken sink.new)) }
-    ensures given { IfSome (octets_of (F.files shelf.old) name.now) (λ octets. result ≡ ReplayStatus.ReadFault → HasShownFrom tailoring.now octets (F.rest shelf.old) (F.rest shelf.new) (K.taken sink.old) (K.taken sink.new)) }
+    ensures nothing { WritesNothingOf (asked_of_record command) result (K.taken sink.old) (K.taken sink.new) }
+    ensures output { IfSome (octets_of (F.files shelf.old) name.now) (λ octets. HasOutput result (record_outcome (asked_of_record command) tailoring.now octets) (K.taken sink.old) (K.taken sink.new)) }
+    ensures given { IfSome (octets_of (F.files shelf.old) name.now) (λ octets. result ≡ ReplayStatus.ReadFault → HasGivenFrom (asked_of_record command) tailoring.now octets (F.rest shelf.old) (F.rest shelf.new) (K.taken sink.old) (K.taken sink.new)) }
     ensures sound { F.is_sound shelf.old → IsSome (octets_of (F.files shelf.old) name.now) → F.faults shelf.new ≡ F.faults shelf.old }
-    ensures room { IfSome (octets_of (F.files shelf.old) name.now) (λ octets. IfSome (K.room sink.old) (λ room. length (show_text tailoring.now octets) ≤ room → K.faults sink.new ≡ K.faults sink.old)) }
+    ensures room { IfSome (octets_of (F.files shelf.old) name.now) (λ octets. IfSome (K.room sink.old) (λ room. length (outcome_text (record_outcome (asked_of_record command) tailoring.now octets)) ≤ room → K.faults sink.new ≡ K.faults sink.old)) }
 {
     if shelf.select(name).is_err() {
         return ReplayStatus::ReadFault;
     }
+    on_selected(alloc, command, tailoring, shelf, sink)
+}
+
+/// Does what a command says with the record that the shelf has selected.
+fn on_selected<F: Shelf, K: Sink>(
+    alloc: Global,
+    command: RecordCommand,
+    tailoring: &Tailoring,
+    shelf: &mut F,
+    sink: &mut K,
+) -> ReplayStatus
+    ensures used { result ≡ ReplayStatus.Usage → ⊥ }
+    ensures read_fault { result ≡ ReplayStatus.ReadFault → HasRisen (F.faults shelf.old) (F.faults shelf.new) }
+    ensures write_fault { result ≡ ReplayStatus.WriteFault → HasRisen (K.faults sink.old) (K.faults sink.new) }
+    ensures nothing { WritesNothingOf (asked_of_record command) result (K.taken sink.old) (K.taken sink.new) }
+    ensures output { IfSome (F.rest shelf.old) (λ octets. HasOutput result (record_outcome (asked_of_record command) tailoring.now octets) (K.taken sink.old) (K.taken sink.new)) }
+    ensures given { IfSome (F.rest shelf.old) (λ octets. result ≡ ReplayStatus.ReadFault → HasGiven (asked_of_record command) tailoring.now octets (F.rest shelf.new) (K.taken sink.old) (K.taken sink.new)) }
+    ensures sound { F.is_sound shelf.old → IsSome (F.rest shelf.old) → F.faults shelf.new ≡ F.faults shelf.old }
+    ensures room { IfSome (F.rest shelf.old) (λ octets. IfSome (K.room sink.old) (λ room. length (outcome_text (record_outcome (asked_of_record command) tailoring.now octets)) ≤ room → K.faults sink.new ≡ K.faults sink.old)) }
+{
+    match command {
+        RecordCommand::Replay => replayed(alloc, tailoring, shelf, sink),
+        RecordCommand::Show => shown(alloc, tailoring, shelf, sink),
+    }
+}
+
+/// Writes a line for each entry of the record that the shelf has selected, before the next one is read.
+fn shown<F: Shelf, K: Sink>(
+    alloc: Global,
+    tailoring: &Tailoring,
+    shelf: &mut F,
+    sink: &mut K,
+) -> ReplayStatus
+    ensures used { result ≡ ReplayStatus.Usage → ⊥ }
+    ensures read_fault { result ≡ ReplayStatus.ReadFault → HasRisen (F.faults shelf.old) (F.faults shelf.new) }
+    ensures write_fault { result ≡ ReplayStatus.WriteFault → HasRisen (K.faults sink.old) (K.faults sink.new) }
+    ensures nothing { WritesNothingElse result (K.taken sink.old) (K.taken sink.new) }
+    ensures output { IfSome (F.rest shelf.old) (λ octets. HasOutput result (show_outcome tailoring.now octets) (K.taken sink.old) (K.taken sink.new)) }
+    ensures given { IfSome (F.rest shelf.old) (λ octets. result ≡ ReplayStatus.ReadFault → IsShownAsGiven tailoring.now octets (F.rest shelf.new) (K.taken sink.old) (K.taken sink.new)) }
+    ensures sound { F.is_sound shelf.old → IsSome (F.rest shelf.old) → F.faults shelf.new ≡ F.faults shelf.old }
+    ensures room { IfSome (F.rest shelf.old) (λ octets. IfSome (K.room sink.old) (λ room. length (outcome_text (show_outcome tailoring.now octets)) ≤ room → K.faults sink.new ≡ K.faults sink.old)) }
+{
     if let Err(fault) = show(alloc, tailoring, shelf, sink) {
         return fault.into();
     }
     ReplayStatus::Done
-}
-
-/// The lines for the record of this name under a tailoring, or how the run ends without them.
-fn replayed_text<F: Shelf>(
-    alloc: Global,
-    tailoring: TailoringName<'_>,
-    name: &str,
-    shelf: &mut F,
-) -> Result<Vec<u8>, ReplayStatus>
-    ensures read_fault { IsErrOf result ReplayStatus.ReadFault → HasRisen (F.faults shelf.old) (F.faults shelf.new) }
-    ensures outcome { (meant : Result TailoringParts TailoringFault) → StandsFor (F.files shelf.old) (named tailoring.entry) meant → IfSome (told_under replay_outcome (octets_of (F.files shelf.old) name.now) meant) (ReadsTo (λ text. text.items) result) }
-    ensures sound { F.is_sound shelf.old → (meant : Result TailoringParts TailoringFault) → StandsFor (F.files shelf.old) (named tailoring.entry) meant → IsSome (told_under replay_outcome (octets_of (F.files shelf.old) name.now) meant) → F.faults shelf.new ≡ F.faults shelf.old }
-    ensures early { IsOfReading result }
-{
-    let tailoring = tailoring_of(alloc, tailoring, shelf)?;
-    record_text(alloc, &tailoring, name, shelf)
-}
-
-/// The lines for the record of this name, or how the run ends without them.
-fn record_text<F: Shelf>(
-    alloc: Global,
-    tailoring: &Tailoring,
-    name: &str,
-    shelf: &mut F,
-) -> Result<Vec<u8>, ReplayStatus>
-    ensures read_fault { IsErrOf result ReplayStatus.ReadFault → HasRisen (F.faults shelf.old) (F.faults shelf.new) }
-    ensures outcome { IfSome (octets_of (F.files shelf.old) name.now) (λ octets. ReadsTo (λ text. text.items) result (replay_outcome tailoring.now octets)) }
-    ensures sound { F.is_sound shelf.old → IsSome (octets_of (F.files shelf.old) name.now) → F.faults shelf.new ≡ F.faults shelf.old }
-    ensures early { IsOfReading result }
-{
-    if shelf.select(name).is_err() {
-        return Err(ReplayStatus::ReadFault);
-    }
-    match replayed(alloc, tailoring, shelf) {
-        Ok(transcript) => Ok(transcript.into_octets()),
-        Err(status) => Err(status),
-    }
 }
 
 /// The record of the lines of this name under a tailoring, or how the run ends without it.

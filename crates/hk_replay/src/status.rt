@@ -1,23 +1,18 @@
 //! How a run ended.
 ghost use Rattle.std.specs.Prelude.{◌≡◌, ◌++◌, codes, IfOk};
-ghost use Rattle.hk_replay.specs.Faults.{fault_text, format_text, status_number, status_of_encoding, status_of_fault, status_of_input, status_of_showing, status_of_tailoring};
+ghost use Rattle.hk_replay.specs.Faults.{entry_text, fault_text, format_text, problem_text, status_number, status_of_encoding, status_of_entry, status_of_fault, status_of_input, status_of_showing, status_of_tailoring};
 ghost use Rattle.hk_tailoring.specs.Texts.{fault_text as fault_of_tailoring};
 ghost use Rattle.hk_replay.specs.declared.status.ReplayStatus.TheVariants as status;
 ghost use Rattle.std.specs.String.{string_bytes};
 
+use ground_history::SentFault;
 use hk_base::{Items, Memory, Octets};
 use hk_tailoring::TailoringFault;
 use record_commands::{EncodeFault, InputFault, ShowFault};
 use session_record::RecordFault;
+use session_texts::RecordProblem;
 use std::alloc::{AllocError, Global};
 use std::fmt::Write;
-
-/// What is wrong with the record.
-#[derive(Clone, Copy, Debug, PartialEq, Eq, Drop)]
-pub enum RecordProblem {
-    /// A fault of its format.
-    Format(RecordFault),
-}
 
 /// How a run ended.
 #[derive(Debug, Drop)]
@@ -28,7 +23,8 @@ pub enum ReplayStatus {
     Usage,
     /// The tailoring has a fault. `Memory` never stands here: it is a status of its own.
     Tailoring(TailoringFault),
-    /// The record has a fault.
+    /// The record has a fault: of its format, or of a request in it. `ReadFault` and `Memory` never stand here: they are statuses of
+    /// their own.
     Record(RecordProblem),
     /// An input couldn't be selected or read.
     ReadFault,
@@ -38,8 +34,6 @@ pub enum ReplayStatus {
     NoMemory,
     /// The line with this number, from 1, isn't the words of the request that stands there. With 0 the lines are too long.
     Text(u32),
-    /// The record has no fault, but isn't of a form that is built so far.
-    NotBuilt,
 }
 
 impl From<Memory> for ReplayStatus {
@@ -116,6 +110,16 @@ impl From<EncodeFault> for ReplayStatus {
 }
 
 impl ReplayStatus {
+    /// How a run ends by a request that can't stand in the entry at this offset.
+    pub fn of_entry(fault: SentFault, offset: u64) -> ReplayStatus
+        ensures { result ≡ status_of_entry fault offset }
+    {
+        match fault {
+            SentFault::Memory => ReplayStatus::NoMemory,
+            fault => ReplayStatus::Record(RecordProblem::Entry(fault, offset)),
+        }
+    }
+
     /// The exit status of the program.
     pub fn number(&self) -> u8
         ensures { result ≡ status_number self.now }
@@ -129,7 +133,6 @@ impl ReplayStatus {
             ReplayStatus::WriteFault => 6,
             ReplayStatus::NoMemory => 7,
             ReplayStatus::Text(_) => 8,
-            ReplayStatus::NotBuilt => 20,
         }
     }
 
@@ -141,12 +144,11 @@ impl ReplayStatus {
             ReplayStatus::Done => String::new(alloc),
             ReplayStatus::Usage => String::from_str(alloc, "usage")?,
             ReplayStatus::Tailoring(fault) => return tailoring_text(alloc, fault),
-            ReplayStatus::Record(RecordProblem::Format(fault)) => format_text(alloc, *fault)?,
+            ReplayStatus::Record(problem) => problem_text(alloc, *problem)?,
             ReplayStatus::ReadFault => String::from_str(alloc, "read fault")?,
             ReplayStatus::WriteFault => String::from_str(alloc, "write fault")?,
             ReplayStatus::NoMemory => String::from_str(alloc, "no memory")?,
             ReplayStatus::Text(line) => format!(in alloc; "line {line}")?,
-            ReplayStatus::NotBuilt => String::from_str(alloc, "not built")?,
         };
         Ok(Items::from_vec(text.into_bytes()))
     }
@@ -159,6 +161,35 @@ fn tailoring_text(alloc: Global, fault: &TailoringFault) -> Result<Octets, Memor
     let mut text = Vec::from_slice(alloc, b"tailoring: ")?;
     text.extend_from_slice(fault.text(alloc)?.as_slice())?;
     Ok(Items::from_vec(text))
+}
+
+/// The text of what is wrong with a record.
+fn problem_text(alloc: Global, problem: RecordProblem) -> Result<String, AllocError>
+    ensures { IfOk result (λ text. string_bytes text ≡ problem_text problem) }
+{
+    match problem {
+        RecordProblem::Format(fault) => format_text(alloc, fault),
+        RecordProblem::Entry(fault, offset) => entry_text(alloc, fault, offset),
+    }
+}
+
+/// The text of a request that can't stand in the entry at this offset.
+fn entry_text(alloc: Global, fault: SentFault, offset: u64) -> Result<String, AllocError>
+    ensures { IfOk result (λ text. string_bytes text ≡ entry_text fault offset) }
+{
+    let mut text = String::new(alloc);
+    match fault {
+        SentFault::BadRequest => write!(text, "record: bad request at {offset}")?,
+        SentFault::WrongCount(expected, found) => write!(
+            text,
+            "record: wrong count {found} for {expected} at {offset}"
+        )?,
+        SentFault::Reused(count) => write!(text, "record: reused count {count} at {offset}")?,
+        SentFault::SessionFull => write!(text, "record: session full at {offset}")?,
+        SentFault::WindowFull(_) => write!(text, "record: window full at {offset}")?,
+        SentFault::Memory => write!(text, "no memory")?,
+    }
+    Ok(text)
 }
 
 /// The text of a fault of the format.

@@ -1,50 +1,46 @@
+//! Runs of the command on records in memory.
 ghost use Rattle.std.specs.Prelude.{◌≤◌};
 
 use crate::replay::replay_main;
-use crate::status::{RecordProblem, ReplayStatus};
-use hk_base::{Items, MemShelf, MemSink, Memory, Octets, Shelf};
-use hk_tailoring::TailoringFault;
-use session_record::{Entry, RecordFault, RecordReader};
+use crate::status::ReplayStatus;
+use ground_history::SentFault;
+use hk_base::{Items, MemShelf, MemSink, Memory, Octets};
 use std::alloc::{AllocError, Global};
 use std::process::Abort;
 use std::test::Fail;
 
 /// The header of a record with known start.
-pub const KNOWN: &[u8] = b"HKREC1K\n";
+const KNOWN: &[u8] = b"HKREC1K\n";
+
+/// That of one with unknown start.
+const UNKNOWN: &[u8] = b"HKREC1U\n";
 
 /// A report of housekeeping structure 1, with the tag 16385.
-pub const REPORT: &[u8] = &[
-    b'G', 0x00, 0x00, 0x00, 0x16, 0x08, 0x64, 0xc0, 0x00, 0x00, 0x0f, 0x20, 0x03, 0x19, 0x00, 0x00,
-    0x00, 0x01, 0x00, 0x00, 0x00, 0x00, 0x40, 0x01, 0x01, 0x00, 0x2a,
-];
+const REPORT: &[u8] = b"G\x00\x00\x00\x16\x08d\xc0\x00\x00\x0f\x20\x03\x19\x00\x00\x00\x01\x00\x00\x00\x00\x40\x01\x01\x00\x2a";
 
 const REPORT_TEXT: &str = "report hk 1 tag 16385 decided interval 4\nvalue 1 slot 3 = 42\n";
 
-/// A later report of the same structure, with the tag 32769.
-const LATER: &[u8] = &[
-    b'G', 0x00, 0x00, 0x00, 0x16, 0x08, 0x64, 0xc0, 0x00, 0x00, 0x0f, 0x20, 0x03, 0x19, 0x00, 0x00,
-    0x00, 0x01, 0x00, 0x00, 0x00, 0x00, 0x80, 0x01, 0x01, 0x00, 0x07,
-];
+/// A later report of it, with the tag 32769.
+const LATER: &[u8] = b"G\x00\x00\x00\x16\x08d\xc0\x00\x00\x0f\x20\x03\x19\x00\x00\x00\x01\x00\x00\x00\x00\x80\x01\x01\x00\x07";
 
-/// A report of housekeeping structure 2, which has an array, with the tag 32770.
-const ARRAY: &[u8] = &[
-    b'G', 0x00, 0x00, 0x00, 0x1a, 0x08, 0x64, 0xc0, 0x00, 0x00, 0x13, 0x20, 0x03, 0x19, 0x00, 0x00,
-    0x00, 0x01, 0x00, 0x00, 0x00, 0x00, 0x80, 0x02, 0x02, 0x00, 0x01, 0x0a, 0x0b, 0x0c, 0x0d,
-];
+/// A report on what the structure is, with the tag 20481.
+const STRUCTURE: &[u8] = b"G\x00\x00\x00\x1b\x08d\xc0\x00\x00\x14\x20\x03\x0a\x00\x00\x00\x01\x00\x00\x00\x00P\x01\x01\x01\x00\x04\x01\x00\x01\x00";
 
-/// A request that sets the interval of housekeeping structure 2.
-pub const REQUEST: &[u8] = &[
-    b'S', 0x00, 0x00, 0x00, 0x0f, 0x18, 0x64, 0xc0, 0x00, 0x00, 0x08, 0x2f, 0x03, 0x1f, 0x00, 0x01,
-    0x01, 0x02, 0x00, 0x04,
-];
+/// A report of housekeeping structure 3, with the tag 32771.
+const THIRD: &[u8] = b"G\x00\x00\x00\x18\x08d\xc0\x00\x00\x11\x20\x03\x19\x00\x00\x00\x01\x00\x00\x00\x00\x80\x03\x03\x00\x00\x00\x09";
 
-/// A line of the journal.
-pub const LINE: &[u8] = b"J\x00\x00\x00\x04noon";
+/// A report on the statistics of parameter 2, with the tag 8200.
+const STATISTICS: &[u8] = b"G\x00\x00\x005\x08d\xc0\x00\x00\x2e\x20\x04\x02\x00\x00\x00\x01\x00\x00\x00\x00\x20\x08\
+    \x00\x00\x00\x00\x00\x00\x00\x00\x00\x00\x20\x08\x01\x00\x02\x00\x00\x00\x02\xfd\
+    \x00\x00\x00\x00\x00\x00\xfc\x00\x00\x00\x00\x10\x00\xfc";
 
 /// The words of the command on the record of `shelf_of`.
-const REPLAY: [&str; 3] = ["replay", "builtin", "record"];
+const REPLAY: &[&str] = &["replay", "builtin", "record"];
 
-pub fn words_of(alloc: Global, words: &[&str]) -> Result<Vec<String>, AllocError> {
+/// A request that sets the interval of housekeeping structure 2 to 4, as `encode` is given it.
+const LINE: &[u8] = b"0 f interval hk 2 4\n";
+
+fn words_of(alloc: Global, words: &[&str]) -> Result<Vec<String>, AllocError> {
     let mut all = Vec::new(alloc);
     for word in words {
         all.push(String::from_str(alloc, word)?)?;
@@ -52,18 +48,8 @@ pub fn words_of(alloc: Global, words: &[&str]) -> Result<Vec<String>, AllocError
     Ok(all)
 }
 
-/// A file of these parts.
-pub fn file_of(alloc: Global, name: &str, parts: &[&[u8]]) -> Result<(Octets, Octets), Memory> {
-    let mut octets = Vec::new(alloc);
-    for part in parts {
-        octets.extend_from_slice(part)?;
-    }
-    let name = Items::from_slice(alloc, name.as_bytes())?;
-    Ok((name, Items::from_vec(octets)))
-}
-
 /// A shelf with the record of these parts. Its reads give at most so many octets, and its listed calls fail.
-pub fn shelf_of(
+fn shelf_of(
     alloc: Global,
     parts: &[&[u8]],
     failing: &[u32],
@@ -71,378 +57,228 @@ pub fn shelf_of(
 ) -> Result<MemShelf, Memory>
     requires { 1 ≤ most }
 {
-    let file = file_of(alloc, "record", parts)?;
-    let files = Items::from_vec(Vec::from_array(alloc, [file])?);
+    let mut octets = Vec::new(alloc);
+    for part in parts {
+        octets.extend_from_slice(part)?;
+    }
+    let name = Items::from_slice(alloc, b"record".as_slice())?;
+    let files = Items::from_vec(Vec::from_array(alloc, [(name, Items::from_vec(octets))])?);
     Ok(MemShelf::new(files, Items::from_slice(alloc, failing)?, most))
 }
 
 /// A sink with room for so many octets, ten at a time. Its listed calls fail.
-pub fn sink_of(alloc: Global, failing: &[u32], room: u32) -> Result<MemSink, Memory> {
+fn sink_of(alloc: Global, failing: &[u32], room: u32) -> Result<MemSink, Memory> {
     MemSink::new(alloc, Items::from_slice(alloc, failing)?, 10, room)
 }
 
-/// How the command ends on that shelf, and what it writes.
-fn replayed(
+/// How the words end on that shelf, and what they write.
+fn run(
     alloc: Global,
+    words: &[&str],
     mut shelf: MemShelf,
     mut sink: MemSink,
 ) -> Result<(ReplayStatus, MemSink), Memory> {
-    let words = words_of(alloc, &REPLAY)?;
+    let words = words_of(alloc, words)?;
     let status = replay_main(alloc, &words, &mut shelf, &mut sink);
     Ok((status, sink))
 }
 
-/// Both are the same: their numbers and their texts are.
-pub fn assert_status(
-    rt: &impl Abort,
-    alloc: Global,
-    found: &ReplayStatus,
-    expected: &ReplayStatus,
-) -> Result<(), Memory> {
-    assert_eq!(rt; found.number(), expected.number());
-    let text = found.fault_text(alloc)?;
-    let wanted = expected.fault_text(alloc)?;
-    assert!(rt; text.as_slice() == wanted.as_slice());
-    Ok(())
+/// What is printed of a status, behind its number.
+fn status_text(alloc: Global, status: &ReplayStatus) -> Result<(u8, Octets), Memory> {
+    Ok((status.number(), status.fault_text(alloc)?))
 }
 
-/// A record of these parts gives the status and the text.
+/// Words on a record of these parts end with the number and the text of a status, and write the text.
 fn check(
     rt: &impl Abort,
     alloc: Global,
+    words: &[&str],
     parts: &[&[u8]],
-    status: ReplayStatus,
-    text: &str,
+    status: (u8, &str),
+    text: &[u8],
 ) -> Result<(), Memory> {
     let shelf = shelf_of(alloc, parts, &[], 4096)?;
-    let sink = sink_of(alloc, &[], 1000)?;
-    let (found, sink) = replayed(alloc, shelf, sink)?;
-    assert_status(rt, alloc, &found, &status)?;
-    assert!(rt; sink.taken() == text.as_bytes(), "not {text}");
+    let (found, sink) = run(alloc, words, shelf, sink_of(alloc, &[], 1000)?)?;
+    let (number, fault) = status_text(alloc, &found)?;
+    assert_eq!(rt; number, status.0);
+    assert!(rt; fault.as_slice() == status.1.as_bytes(), "not {words:?}");
+    assert!(rt; sink.taken() == text, "not {words:?}");
     Ok(())
 }
 
+const DONE: (u8, &str) = (0, "");
+
 #[test]
-fn records_with_lines(rt: HostRuntime) -> Result<(), Fail> {
-    let two = "report hk 1 tag 16385 decided interval 4\nvalue 1 slot 3 = 42\n\
+fn records_that_are_replayed(rt: HostRuntime) -> Result<(), Fail> {
+    let unopened = "report hk 1 tag 16385 no-opening\n\
         report hk 1 tag 32769 decided interval 4\nvalue 1 slot 7 = 7\n";
-    let array = "report hk 2 tag 32770 decided interval 8\nvalue 1 slot 7 = 1\n\
-        value 3 slot 1 = 10\nvalue 3 slot 3 = 11\nvalue 3 slot 5 = 12\nvalue 3 slot 7 = 13\n";
-    let table: [(&[&[u8]], &str); 5] = [
-        (&[KNOWN, REPORT], REPORT_TEXT),
+    let statistics = "statistics tag 8200 from 0 to 8200\n\
+        stat 2 count 2 max -3 at 0 min -4 at 4096 mean -4 scale 1\n";
+    let table: [(&[&[u8]], &str); 4] = [
         (&[KNOWN], ""),
-        (&[KNOWN, REPORT, LATER], two),
-        (&[KNOWN, LINE, REPORT, LINE], REPORT_TEXT),
-        (&[KNOWN, ARRAY], array),
+        (&[KNOWN, REPORT], REPORT_TEXT),
+        (&[UNKNOWN, REPORT, STRUCTURE, LATER], unopened),
+        (&[KNOWN, STATISTICS], statistics),
     ];
     for (parts, text) in table {
-        check(&rt, rt.alloc(), parts, ReplayStatus::Done, text)?;
+        check(&rt, rt.alloc(), REPLAY, parts, DONE, text.as_bytes())?;
     }
     Ok(())
 }
 
-pub fn format(fault: RecordFault) -> ReplayStatus {
-    ReplayStatus::Record(RecordProblem::Format(fault))
+/// So many requests, each to append another parameter to housekeeping structure 3.
+fn appending(alloc: Global, count: u8) -> Result<Vec<u8>, AllocError> {
+    let mut octets = Vec::new(alloc);
+    for number in 0..count {
+        octets.extend_from_slice(b"S\x00\x00\x00\x10\x18d\xc0")?;
+        octets.push(number)?;
+        octets.extend_from_slice(b"\x00\x09\x2f\x03\x1d\x00\x01\x03\x01\x00")?;
+        octets.push(number.saturating_add(10))?;
+        octets.push(0)?;
+    }
+    Ok(octets)
 }
 
 #[test]
-fn records_without_lines(rt: HostRuntime) -> Result<(), Fail> {
-    let faults: [(&[&[u8]], RecordFault); 4] = [
-        (&[KNOWN, &REPORT[..26]], RecordFault::Cut(8)),
-        (&[KNOWN, b"X"], RecordFault::BadKind(88, 8)),
-        (&[KNOWN, b"G\xff\xff\xff\xff"], RecordFault::TooLong(8)),
-        (&[b"HKR"], RecordFault::BadMagic),
+fn structures_that_may_be_many(rt: HostRuntime) -> Result<(), Fail> {
+    let alloc = rt.alloc();
+    let decided = "report hk 3 tag 32771 decided interval 2\nvalue 6 slot 7 = 9\n";
+    let table = [
+        (6, decided),
+        (7, "report hk 3 tag 32771 crowded 0\n"),
     ];
-    for (parts, fault) in faults {
-        check(&rt, rt.alloc(), parts, format(fault), "")?;
+    for (count, text) in table {
+        let requests = appending(alloc, count)?;
+        let parts: &[&[u8]] = &[KNOWN, requests.as_slice(), THIRD];
+        check(&rt, alloc, REPLAY, parts, DONE, text.as_bytes())?;
     }
-    let forms: [&[&[u8]]; 5] = [
-        &[KNOWN, REQUEST],
-        &[b"HKREC1U\n", REPORT],
-        &[b"HKREC2K\n", REPORT],
-        &[KNOWN, REPORT, REPORT],
-        &[KNOWN, LATER, REPORT],
+    Ok(())
+}
+
+/// A request to enable housekeeping structure 1, behind its count.
+const ENABLING: &[u8] = b"\x00\x06\x2f\x03\x05\x00\x01\x01\x01";
+
+/// As many requests as a short session has.
+fn full_session(alloc: Global) -> Result<Vec<u8>, AllocError> {
+    let mut octets = Vec::new(alloc);
+    for count in 0xc000..=0xffffu16 {
+        octets.extend_from_slice(b"S\x00\x00\x00\x0d\x18d")?;
+        octets.extend_from_slice(&count.to_be_bytes())?;
+        octets.extend_from_slice(ENABLING)?;
+    }
+    Ok(octets)
+}
+
+#[test]
+fn a_session_that_is_full(rt: HostRuntime) -> Result<(), Fail> {
+    let alloc = rt.alloc();
+    let requests = full_session(alloc)?;
+    let first = &requests.as_slice()[..18.min(requests.len())];
+    let other = b"S\x00\x00\x00\x0d\x18d\xc0\x00\x00\x06\x2f\x03\x06\x00\x01\x01\x01";
+    let again: &[&[u8]] = &[KNOWN, requests.as_slice(), first];
+    check(&rt, alloc, REPLAY, again, DONE, b"")?;
+    let more: &[&[u8]] = &[KNOWN, requests.as_slice(), other];
+    let full = (4, "record: session full at 294920");
+    check(&rt, alloc, REPLAY, more, full, b"")?;
+    Ok(())
+}
+
+#[test]
+fn other_forms(rt: HostRuntime) -> Result<(), Fail> {
+    let table: [(&[&str], &[&[u8]], (u8, &str), &[u8]); 8] = [
+        (&[], &[], (2, "usage"), b""),
+        (&["replay", "builtin"], &[], (2, "usage"), b""),
+        (REPLAY, &[KNOWN, &REPORT[..26]], (4, "record: cut at 8"), b""),
+        (&["trim", "record"], &[KNOWN, &REPORT[..26]], DONE, KNOWN),
+        (
+            &["check", "builtin"],
+            &[],
+            DONE,
+            b"tailoring ok parameters 14 structures 4\n",
+        ),
+        (
+            &["show", "builtin", "record"],
+            &[KNOWN, REPORT],
+            DONE,
+            b"got 16385 3.25 hk 1 octets 2\n",
+        ),
+        (
+            &["encode", "builtin", "record"],
+            &[LINE],
+            DONE,
+            b"HKREC1K\nS\x00\x00\x00\x0f\x18d\xc0\x00\x00\x08\x2f\x03\x1f\x00\x01\x01\x02\x00\x04",
+        ),
+        (
+            &["replay", "record", "record"],
+            &[LINE],
+            (3, "tailoring: not toml"),
+            b"",
+        ),
     ];
-    for parts in forms {
-        check(&rt, rt.alloc(), parts, ReplayStatus::NotBuilt, "")?;
+    for (words, parts, status, text) in table {
+        check(&rt, rt.alloc(), words, parts, status, text)?;
     }
     Ok(())
 }
 
 #[test]
 fn statuses_and_their_texts(rt: HostRuntime) -> Result<(), Fail> {
-    let table = [
-        (ReplayStatus::Done, 0, ""),
-        (ReplayStatus::Usage, 2, "usage"),
-        (
-            ReplayStatus::Tailoring(TailoringFault::NotToml),
-            3,
-            "tailoring: not toml",
-        ),
-        (
-            ReplayStatus::Tailoring(TailoringFault::TooLong),
-            3,
-            "tailoring: too long",
-        ),
-        (format(RecordFault::BadMagic), 4, "record: bad magic"),
-        (
-            format(RecordFault::BadKind(88, 8)),
-            4,
-            "record: bad kind 88 at 8",
-        ),
-        (format(RecordFault::Cut(8)), 4, "record: cut at 8"),
-        (format(RecordFault::TooLong(8)), 4, "record: too long at 8"),
-        (
-            format(RecordFault::TooManyEntries(8)),
-            4,
-            "record: too many entries at 8",
-        ),
+    let faults = [
+        (SentFault::BadRequest, "record: bad request at 8"),
+        (SentFault::WrongCount(0, 1), "record: wrong count 1 for 0 at 8"),
+        (SentFault::Reused(3), "record: reused count 3 at 8"),
+        (SentFault::SessionFull, "record: session full at 8"),
+        (SentFault::WindowFull(1), "record: window full at 8"),
+    ];
+    for (fault, text) in faults {
+        let status = ReplayStatus::of_entry(fault, 8);
+        let (number, found) = status_text(rt.alloc(), &status)?;
+        assert!(rt; number == 4 && found.as_slice() == text.as_bytes(), "not {text}");
+    }
+    let others = [
         (ReplayStatus::ReadFault, 5, "read fault"),
         (ReplayStatus::WriteFault, 6, "write fault"),
         (ReplayStatus::NoMemory, 7, "no memory"),
         (ReplayStatus::Text(0), 8, "line 0"),
-        (ReplayStatus::Text(16_385), 8, "line 16385"),
-        (ReplayStatus::NotBuilt, 20, "not built"),
     ];
-    for (status, number, text) in table {
-        assert_eq!(rt; status.number(), number);
-        let found = status.fault_text(rt.alloc())?;
-        assert!(rt; found.as_slice() == text.as_bytes(), "not {text}");
+    for (status, number, text) in others {
+        let (is, found) = status_text(rt.alloc(), &status)?;
+        assert!(rt; is == number && found.as_slice() == text.as_bytes(), "not {text}");
     }
     Ok(())
 }
 
+/// Each call of the shelf fails in turn, until a run ends well.
 #[test]
-fn words_that_name_no_record(rt: HostRuntime) -> Result<(), Fail> {
+fn reads_fail(rt: HostRuntime) -> Result<(), Fail> {
     let alloc = rt.alloc();
-    let table: [(&[&str], ReplayStatus); 14] = [
-        (&[], ReplayStatus::Usage),
-        (&["replay", "builtin"], ReplayStatus::Usage),
-        (&["check"], ReplayStatus::Usage),
-        (&["check", "builtin", "record"], ReplayStatus::Usage),
-        (&["trim"], ReplayStatus::Usage),
-        (&["show", "builtin"], ReplayStatus::Usage),
-        (&["encode", "builtin"], ReplayStatus::Usage),
-        (&["show", "builtin", "other"], ReplayStatus::ReadFault),
-        (&["encode", "other", "record"], ReplayStatus::ReadFault),
-        (&["replay", "other", "record"], ReplayStatus::ReadFault),
-        (&["check", "other"], ReplayStatus::ReadFault),
-        (&["trim", "other"], ReplayStatus::ReadFault),
-        (
-            &["replay", "builtin", "record", "record"],
-            ReplayStatus::Usage,
-        ),
-        (&["replay", "builtin", "other"], ReplayStatus::ReadFault),
-    ];
-    for (words, expected) in table {
-        let words = words_of(alloc, words)?;
-        let mut shelf = shelf_of(alloc, &[KNOWN, REPORT], &[], 4096)?;
-        let mut sink = sink_of(alloc, &[], 1000)?;
-        let status = replay_main(alloc, &words, &mut shelf, &mut sink);
-        assert_status(&rt, alloc, &status, &expected)?;
-        assert!(rt; sink.taken().is_empty());
-    }
-    Ok(())
-}
-
-#[test]
-fn reads_of_any_size(rt: HostRuntime) -> Result<(), Fail> {
-    for most in 1..=64u32 {
-        let shelf = shelf_of(rt.alloc(), &[KNOWN, LINE, REPORT], &[], most)?;
-        let sink = sink_of(rt.alloc(), &[], 1000)?;
-        let (status, sink) = replayed(rt.alloc(), shelf, sink)?;
-        assert_status(&rt, rt.alloc(), &status, &ReplayStatus::Done)?;
-        assert!(rt; sink.taken() == REPORT_TEXT.as_bytes(), "at {most}");
-    }
-    Ok(())
-}
-
-/// Call 1 selects the record. Its 35 octets are read by five calls, and the next one finds its end.
-#[test]
-fn reads_that_fail(rt: HostRuntime) -> Result<(), Fail> {
-    for call in 1..=7u32 {
-        let shelf = shelf_of(rt.alloc(), &[KNOWN, REPORT], &[call], 7)?;
-        let sink = sink_of(rt.alloc(), &[], 1000)?;
-        let (status, sink) = replayed(rt.alloc(), shelf, sink)?;
-        assert_status(&rt, rt.alloc(), &status, &ReplayStatus::ReadFault)?;
-        assert!(rt; sink.taken().is_empty());
-    }
-    Ok(())
-}
-
-/// The next entry. A read that failed is asked for again.
-fn next_entry(
-    reader: &mut RecordReader,
-    shelf: &mut MemShelf,
-) -> Result<Option<(u64, Entry)>, RecordFault> {
-    match reader.next(shelf) {
-        Err(RecordFault::ReadFault) => reader.next(shelf),
-        answer => answer,
-    }
-}
-
-/// An entry of those octets came, which begins at that offset.
-fn is_entry(answer: &Result<Option<(u64, Entry)>, RecordFault>, offset: u64, held: &[u8]) -> bool {
-    match answer {
-        Ok(Some((at, Entry::Line(text)))) => *at == offset && text.as_slice() == held,
-        Ok(Some((at, Entry::Got(packet)))) => *at == offset && packet.as_slice() == held,
-        _ => false,
-    }
-}
-
-/// Each call of the shelf fails in turn, at each size of the reader's pieces.
-#[test]
-fn entries_in_any_pieces(rt: HostRuntime) -> Result<(), Fail> {
-    let alloc = rt.alloc();
-    for most in 1..=64u32 {
-        for failing in 2..=46u32 {
-            let mut shelf = shelf_of(alloc, &[KNOWN, LINE, REPORT], &[failing], 4096)?;
-            assert!(rt; shelf.select("record").is_ok());
-            let mut reader = RecordReader::new(alloc, most)?;
-            assert!(rt; is_entry(&next_entry(&mut reader, &mut shelf), 8, &LINE[5..]));
-            assert!(rt; is_entry(&next_entry(&mut reader, &mut shelf), 17, &REPORT[5..]));
-            assert!(rt; matches!(next_entry(&mut reader, &mut shelf), Ok(None)));
+    for call in 1..=20u32 {
+        let shelf = shelf_of(alloc, &[KNOWN, REPORT, LATER], &[call], 7)?;
+        let (status, sink) = run(alloc, REPLAY, shelf, sink_of(alloc, &[], 1000)?)?;
+        if status.number() == 0 {
+            assert!(rt; call > 10);
+            return Ok(());
         }
-    }
-    Ok(())
-}
-
-/// The text has 61 octets. Each call takes ten of them, as long as there is room.
-#[test]
-fn writes_that_fail(rt: HostRuntime) -> Result<(), Fail> {
-    let table = [
-        (1, 1000, 0),
-        (2, 1000, 10),
-        (3, 1000, 20),
-        (7, 1000, 60),
-        (8, 0, 0),
-        (8, 25, 25),
-        (8, 60, 60),
-    ];
-    for (call, room, taken) in table {
-        let shelf = shelf_of(rt.alloc(), &[KNOWN, REPORT], &[], 4096)?;
-        let sink = sink_of(rt.alloc(), &[call], room)?;
-        let (status, sink) = replayed(rt.alloc(), shelf, sink)?;
-        assert_status(&rt, rt.alloc(), &status, &ReplayStatus::WriteFault)?;
-        assert!(rt;
-            sink.taken().len() == taken && REPORT_TEXT.as_bytes().starts_with(sink.taken()),
-            "at {call}"
-        );
-    }
-    Ok(())
-}
-
-/// A tailoring with one parameter and one structure.
-const MINE: &[u8] = b"version = 1\napid = 100\nground = 1\nslot = 4096\n[[parameter]]\nid = 7\n\
-    kind = \"unsigned\"\noctets = 2\ninitial = 100\n[[structure]]\nkind = \"housekeeping\"\nid = 1\n\
-    interval = 1\nenabled = true\nsimple = [7]\n";
-
-/// A report of its structure, with the tag 4097.
-const MINE_REPORT: &[u8] = &[
-    b'G', 0x00, 0x00, 0x00, 0x16, 0x08, 0x64, 0xc0, 0x00, 0x00, 0x0f, 0x20, 0x03, 0x19, 0x00, 0x00,
-    0x00, 0x01, 0x00, 0x00, 0x00, 0x00, 0x10, 0x01, 0x01, 0x00, 0x64,
-];
-
-/// How a run with these words ends on a shelf with the file `mine`, and `record` and `other` of these parts.
-pub fn run_with_files(
-    alloc: Global,
-    words: &[&str],
-    record: &[&[u8]],
-    other: &[&[u8]],
-) -> Result<(ReplayStatus, MemSink), Memory> {
-    let files = [
-        file_of(alloc, "mine", &[MINE])?,
-        file_of(alloc, "record", record)?,
-        file_of(alloc, "other", other)?,
-    ];
-    let files = Items::from_vec(Vec::from_array(alloc, files)?);
-    let mut shelf = MemShelf::new(files, Items::from_slice(alloc, &[])?, 4096);
-    let mut sink = sink_of(alloc, &[], 1000)?;
-    let words = words_of(alloc, words)?;
-    let status = replay_main(alloc, &words, &mut shelf, &mut sink);
-    Ok((status, sink))
-}
-
-#[test]
-fn tailorings_from_files(rt: HostRuntime) -> Result<(), Fail> {
-    let alloc = rt.alloc();
-    let text = "report hk 1 tag 4097 decided interval 1\nvalue 7 slot 0 = 100\n";
-    let not_toml = || ReplayStatus::Tailoring(TailoringFault::NotToml);
-    let table: [(&[&str], ReplayStatus, &str); 7] = [
-        (
-            &["check", "builtin"],
-            ReplayStatus::Done,
-            "tailoring ok parameters 14 structures 4\n",
-        ),
-        (
-            &["check", "mine"],
-            ReplayStatus::Done,
-            "tailoring ok parameters 1 structures 1\n",
-        ),
-        (&["replay", "mine", "record"], ReplayStatus::Done, text),
-        (&["check", "other"], not_toml(), ""),
-        (&["replay", "other", "record"], not_toml(), ""),
-        (&["replay", "other", "absent"], not_toml(), ""),
-        (&["replay", "mine", "absent"], ReplayStatus::ReadFault, ""),
-    ];
-    for (words, status, text) in table {
-        let (found, sink) = run_with_files(alloc, words, &[KNOWN, MINE_REPORT], &[b"no key"])?;
-        assert_status(&rt, alloc, &found, &status)?;
-        assert!(rt; sink.taken() == text.as_bytes(), "not {text}");
-    }
-    Ok(())
-}
-
-#[test]
-fn tailorings_that_are_too_long(rt: HostRuntime) -> Result<(), Fail> {
-    let alloc = rt.alloc();
-    let long = vec![in alloc; b'#'; 1_048_577]?;
-    let table: [(&[u8], ReplayStatus); 2] = [
-        (
-            &long.as_slice()[1..],
-            ReplayStatus::Tailoring(TailoringFault::MissingKey(Octets::from_slice(
-                alloc, b"version",
-            )?)),
-        ),
-        (
-            long.as_slice(),
-            ReplayStatus::Tailoring(TailoringFault::TooLong),
-        ),
-    ];
-    for (file, status) in table {
-        let (found, _) = run_with_files(alloc, &["check", "other"], &[], &[file])?;
-        assert_status(&rt, alloc, &found, &status)?;
-    }
-    Ok(())
-}
-
-#[test]
-fn records_that_are_trimmed(rt: HostRuntime) -> Result<(), Fail> {
-    let alloc = rt.alloc();
-    let table: [(&[&[u8]], &[&[u8]]); 4] = [
-        (&[KNOWN, REPORT, LINE], &[KNOWN, REPORT, LINE]),
-        (&[KNOWN, REPORT, &LATER[..26]], &[KNOWN, REPORT]),
-        (&[KNOWN, LINE, &REPORT[..1]], &[KNOWN, LINE]),
-        (
-            &[b"HKREC2U\n", REQUEST, &REPORT[..5]],
-            &[b"HKREC2U\n", REQUEST],
-        ),
-    ];
-    for (parts, kept) in table {
-        let (status, sink) = run_with_files(alloc, &["trim", "record"], parts, &[])?;
-        assert_status(&rt, alloc, &status, &ReplayStatus::Done)?;
-        let (_, kept) = file_of(alloc, "kept", kept)?;
-        assert!(rt; sink.taken() == kept.as_slice());
-    }
-    let faults: [(&[&[u8]], RecordFault); 3] = [
-        (&[b"HKR"], RecordFault::BadMagic),
-        (&[KNOWN, LINE, b"X"], RecordFault::BadKind(88, 17)),
-        (&[KNOWN, b"G\xff\xff\xff\xff"], RecordFault::TooLong(8)),
-    ];
-    for (parts, fault) in faults {
-        let (status, sink) = run_with_files(alloc, &["trim", "record"], parts, &[])?;
-        assert_status(&rt, alloc, &status, &format(fault))?;
+        assert_eq!(rt; status.number(), 5);
         assert!(rt; sink.taken().is_empty());
     }
-    Ok(())
+    Err("no run ended well".into())
+}
+
+/// Each call of the sink fails in turn, until a run ends well.
+#[test]
+fn writes_fail(rt: HostRuntime) -> Result<(), Fail> {
+    let alloc = rt.alloc();
+    for call in 1..=20u32 {
+        let shelf = shelf_of(alloc, &[KNOWN, REPORT], &[], 4096)?;
+        let (status, sink) = run(alloc, REPLAY, shelf, sink_of(alloc, &[call], 1000)?)?;
+        if status.number() == 0 {
+            assert!(rt; call > 6 && sink.taken() == REPORT_TEXT.as_bytes());
+            return Ok(());
+        }
+        assert_eq!(rt; status.number(), 6);
+        assert!(rt; REPORT_TEXT.as_bytes().starts_with(sink.taken()));
+        assert!(rt; call > 2 || sink.taken().len() <= 10);
+    }
+    Err("no run ended well".into())
 }

@@ -19,15 +19,22 @@ pub enum TailoringName<'a> {
 pub enum Command<'a> {
     /// To make something of its inputs, and to write it when it is whole.
     Make(Job<'a>),
-    /// To write a line for each entry of the record of this name as it is read.
-    Show(TailoringName<'a>, &'a str),
+    /// To do something with the record of this name under a tailoring.
+    OnRecord(RecordCommand, TailoringName<'a>, &'a str),
+}
+
+/// What is done with a record under a tailoring.
+#[derive(Clone, Copy)]
+pub enum RecordCommand {
+    /// The text of its session is written when all of it was read.
+    Replay,
+    /// A line for each entry is written as it is read.
+    Show,
 }
 
 /// What is made of the inputs.
 #[derive(Clone, Copy)]
 pub enum Job<'a> {
-    /// The lines for the record of this name under a tailoring.
-    Replay(TailoringName<'a>, &'a str),
     /// The record of the requests whose words are the lines of this name.
     Encode(TailoringName<'a>, &'a str),
     /// The line that says that a tailoring is without fault.
@@ -62,9 +69,9 @@ fn command_on<'a>(form: &str, tailoring: TailoringName<'a>, name: &'a str) -> Op
     ensures { option_map asked result ≡ command_with form.now (named tailoring.entry) name.now }
 {
     if form == "replay" {
-        Some(Command::Make(Job::Replay(tailoring, name)))
+        Some(Command::OnRecord(RecordCommand::Replay, tailoring, name))
     } else if form == "show" {
-        Some(Command::Show(tailoring, name))
+        Some(Command::OnRecord(RecordCommand::Show, tailoring, name))
     } else if form == "encode" {
         Some(Command::Make(Job::Encode(tailoring, name)))
     } else {

@@ -6,4 +6,10 @@ use Rattle.hk_replay.proofs.replay.replay_main.Goals as goal
 
 pub returns-clause-headline : goal.returns-clause-headline
 returns-clause-headline g c =
-    true_words (command_of (map string_bytes c.args.words.now)) (g.F.Shelf.files c.args.shelf.now) c.run.result (g.K.Sink.taken c.args.sink.now) (g.K.Sink.taken c.run.new.sink) c.run.ensures.output
+    λ w world t spoken octets r is.
+    true_words (command_of (map string_bytes c.args.words.now)) (g.F.Shelf.files c.args.shelf.now) c.run.result (g.K.Sink.taken c.args.sink.now) (g.K.Sink.taken c.run.new.sink) c.run.ensures.output t w
+    (record {
+      taken = λ h entries seen. c.records_of_worlds_have_no_problem.ensures.entries t w h entries spoken world seen;
+      is_true = λ h entries seen. c.texts_are_true.ensures.entries t w h entries spoken world seen;
+    })
+    octets r is

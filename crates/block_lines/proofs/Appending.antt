@@ -15,7 +15,8 @@ kept_in_front old more mid new e h =
     ∙ take-append_seam old (more ++ rest)
 
 -- a writer that fails after others keeps what was there before them
-pub fails_after : {X E : Type 0} (r : Result X E) (old more mid new octets : List ℕ) → IsErr r → mid ≡ old ++ more → take (length mid) new ≡ mid → Appends old r new octets
+pub fails_after : {X E : Type 0} (r : Result X E) (old more mid new octets : List ℕ) → IsErr r → mid ≡ old ++ more → take (length mid) new ≡ mid
+    → Appends old r new octets
 fails_after (Ok x) old more mid new octets failed e h = absurd (false≢true failed)
 fails_after (Err fault) old more mid new octets failed e h = kept_in_front old more mid new e h
 

@@ -20,7 +20,10 @@ IsExplained t tag payload _ = ⊤
 abbrev pub report_lines : TailoringParts → Key → ℕ → List ℕ → Verdict → List ℕ
 report_lines t key tag payload verdict = report_front key tag ++ verdict_lines t tag payload verdict
 
+-- a line for each value that a payload is read as under this definition
+abbrev pub payload_lines : TailoringParts → ℕ → List ℕ → Definition → List ℕ
+payload_lines t tag payload d = value_lines (report_places t d tag) (payload_read t d payload)
+
 -- the rest of the block where the verdict names this definition
 abbrev pub decision_lines : TailoringParts → ℕ → List ℕ → Definition → List ℕ
-decision_lines t tag payload d =
-    codes " decided interval " ++ (decimal d.interval ++ (line_end ++ value_lines (report_places t d tag) (payload_read t d payload)))
+decision_lines t tag payload d = codes " decided interval " ++ (decimal d.interval ++ (line_end ++ payload_lines t tag payload d))

@@ -14,3 +14,6 @@ pub use counts::{Counts, write_counts};
 pub use parameters::{write_current, write_statistics};
 pub use reports::write_report;
 pub use summary::write_summary;
+
+#[cfg(test)]
+mod tests;

@@ -2,11 +2,10 @@
 ghost use Rattle.std.specs.Prelude.{◌≡◌, ◌≤◌, true, length};
 ghost use Rattle.body_fields.specs.Outcomes.{Appends};
 ghost use Rattle.hk_base.specs.Definitions.{IsWellFormed};
-ghost use Rattle.hk_base.specs.Payload.{payload_read};
 ghost use Rattle.message_words.specs.Words as words;
 ghost use Rattle.definition_intervals.specs.Verdicts.{explains};
-ghost use Rattle.session_texts.specs.Blocks.{report_front, report_places, verdict_lines, value_lines};
-ghost use Rattle.block_lines.specs.Decisions.{IsExplained, report_lines, decision_lines};
+ghost use Rattle.session_texts.specs.Blocks.{report_front, verdict_lines};
+ghost use Rattle.block_lines.specs.Decisions.{IsExplained, report_lines, decision_lines, payload_lines};
 ghost use Rattle.block_lines.specs.Parts.{numbered_end};
 
 use crate::parts::{Part, put_part, put_parts};
@@ -121,7 +120,7 @@ fn write_payload(
     requires formed { IsWellFormed tailoring.now def.now }
     requires explained { explains tailoring.now tag payload.now def.now ≡ true }
     requires limit { length payload.now ≤ 2147483648 }
-    ensures { Appends out.old.items result out.new.items (value_lines (report_places tailoring.now def.now tag) (payload_read tailoring.now def.now payload.now)) }
+    ensures { Appends out.old.items result out.new.items (payload_lines tailoring.now tag payload.now def.now) }
 {
     match read_payload(alloc, tailoring, def, payload) {
         Ok(values) => {

@@ -8,6 +8,7 @@ use Rattle.ground_history.specs.Ground.{Ground, with_history}
 use Rattle.ground_history.specs.declared.answer.GotKind.{GotKind}
 use Rattle.ground_history.specs.declared.answer.GotKind.TheVariants as became
 use Rattle.ground_history.specs.declared.answer.SentFault.{SentFault}
+use Rattle.definition_intervals.specs.declared.answer.Verdict.{Verdict}
 use Rattle.session_record.specs.declared.entry.Entry.{Entry}
 use Rattle.session_record.specs.declared.entry.Entry.TheVariants.{Sent, Got, Line}
 use Rattle.session_texts.specs.Sessions.{known_with}
@@ -115,16 +116,30 @@ text_by g c = flat_map (block g.tailoring g.history) g.history.kept ++ lines_of 
 abbrev pub standing_text : Standing → List ℕ
 standing_text s = text_by (ground_of s) s.counts
 
+-- numbers with those of the verdicts on more reports, each with its tag
+abbrev pub with_verdicts : TailoringParts → Tally → List (ℕ × Verdict) → Tally
+with_verdicts t x all =
+    record x {
+      decided = x.decided + count_by (λ v. is_decision v.1) all;
+      undecidable = x.undecidable + count_by (λ v. is_undecidable v.1) all;
+      other = x.other + count_by (λ v. is_other v.1) all;
+      values = x.values + sum_by (value_count t) all;
+    }
+
 -- the numbers
-abbrev pub standing_tally : Standing → Tally
-standing_tally s =
-    let all = verdicts s.tailoring s.history in
+abbrev pub tally_by : Ground → Counts → Tally
+tally_by g c =
+    let all = verdicts g.tailoring g.history in
     record {
-      sent = length s.history.requests;
-      received = length s.history.kept;
-      repeats = s.counts.repeats;
+      sent = length g.history.requests;
+      received = length g.history.kept;
+      repeats = c.repeats;
       decided = count_by (λ v. is_decision v.1) all;
       undecidable = count_by (λ v. is_undecidable v.1) all;
       other = count_by (λ v. is_other v.1) all;
-      values = sum_by (value_count s.tailoring) all;
+      values = sum_by (value_count g.tailoring) all;
     }
+
+-- the numbers by what stands for entries
+abbrev pub standing_tally : Standing → Tally
+standing_tally s = tally_by (ground_of s) s.counts

@@ -1,17 +1,14 @@
 //! The blocks of kept reports.
 ghost use Rattle.std.specs.Prelude.{◌≡◌, ◌≤◌, ◌++◌, length, flat_map};
 ghost use Rattle.body_fields.specs.Outcomes.{Appends};
-ghost use Rattle.hk_base.specs.Fit.{IsFit};
 ghost use Rattle.pus_messages.specs.Spelling.{HasRoom};
-ghost use Rattle.ground_history.specs.Ground.{IsGrounded};
-ghost use Rattle.definition_intervals.specs.Verdicts as verdicts;
-ghost use Rattle.session_texts.specs.Blocks.{block, report_front, verdict_lines};
+ghost use Rattle.session_texts.specs.Blocks.{block};
 ghost use Rattle.decommutator.specs.Output.{Proceeds, seen_as};
 ghost use Rattle.decommutator.specs.Blocks.{parameter_block};
 
 use crate::output::write_piece;
+use crate::verdicts::report_verdict;
 use block_lines::{write_current, write_report, write_statistics};
-use definition_intervals::{decisions_are_formed, verdict};
 use ground_history::{History, KeptPacket};
 use hk_base::{Key, Memory, Sink};
 use pus_messages::ReportBody;
@@ -73,10 +70,6 @@ fn put_report(
     requires { length payload.now ≤ 2147483648 }
     ensures { Appends out.old.items result out.new.items (parameter_block history.now.tailoring history.now.history key tag payload.now) }
 {
-    // A law: it says what a decided definition is, and does nothing.
-    decisions_are_formed();
-    let tailoring = history.tailoring();
-    let _most = tailoring.widths();
-    let verdict = verdict(alloc, history, key, tag, payload)?;
-    write_report(alloc, out, tailoring, key, tag, &verdict, payload)
+    let verdict = report_verdict(alloc, history, key, tag, payload)?;
+    write_report(alloc, out, history.tailoring(), key, tag, &verdict, payload)
 }

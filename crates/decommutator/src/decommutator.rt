@@ -7,10 +7,14 @@ ghost use Rattle.decommutator.specs.Standing.{new_standing, entry_answer, after_
 ghost use Rattle.hk_world.specs.Worlds.{World};
 ghost use Rattle.session_texts.specs.Truth.{IsTrueText};
 ghost use Rattle.decommutator.specs.Entries.{IsStandingIn};
+ghost use Rattle.decommutator.specs.Rows as rows;
 ghost use Rattle.decommutator.specs.Output.{FinishCounts, FinishesWithin};
 
 use crate::counts::no_counts;
+use crate::row::ValueRow;
+use crate::rows::{report_count, rows_of};
 use crate::taking::take;
+use crate::tally::tally_of;
 use crate::text::write_text;
 use block_lines::Counts;
 use ground_history::{History, SentFault};
@@ -99,7 +103,24 @@ impl Decommutator {
     pub fn tally(&self) -> Result<Tally, Memory>
         ensures { IfOk result (λ tally. tally ≡ standing_tally self.now.standing) }
     {
-        let _alloc = self.alloc;
-        Err(Memory)
+        let _taken = self.entries;
+        tally_of(self.alloc, &self.history, &self.counts)
+    }
+
+    /// The number of parameter reports that were kept.
+    pub fn reports(&self) -> u32
+        ensures { result ≡ rows.report_count (ground_of self.now.standing) }
+    {
+        let _taken = self.entries;
+        report_count(&self.history)
+    }
+
+    /// The values of the parameter report with this number, from 0 in the order of tags, each with its place: none where the
+    /// report isn't decided.
+    pub fn rows(&self, number: u32) -> Result<Items<ValueRow>, Memory>
+        requires { number < rows.report_count (ground_of self.now.standing) }
+        ensures { IfOk result (λ found. found ≡ rows.report_rows (ground_of self.now.standing) number) }
+    {
+        rows_of(self.alloc, &self.history, number)
     }
 }

@@ -8,8 +8,11 @@ mod fault;
 mod laws;
 mod output;
 mod row;
+mod rows;
 mod taking;
+mod tally;
 mod text;
+mod verdicts;
 
 pub use decommutator::Decommutator;
 pub use fault::FollowFault;

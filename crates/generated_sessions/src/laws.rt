@@ -1,8 +1,7 @@
 //! How the entries of a session come.
-ghost use Rattle.std.specs.Prelude.{◌≡◌, ◌+◌, ◌≤◌, ◌++◌, [], ℕ, length};
-ghost use Rattle.std.specs.List.{All};
-ghost use Rattle.session_record.specs.Records.{held_octets};
+ghost use Rattle.std.specs.Prelude.{◌≡◌, ◌≤◌, ◌+◌, ◌++◌, [], ℕ, All, length};
 ghost use Rattle.generated_sessions.specs.Generated as made;
+ghost use Rattle.generated_sessions.specs.Entries.{IsShortEntry};
 
 /// The session of no rounds has no entries before the last ones, a round more has the entries of that round more, and at the
 /// end the last entries come.
@@ -14,8 +13,8 @@ pub fn rounds_come_one_by_one()
 
 /// The entries of a round are few, and so are the last ones. Each holds no more octets than a packet has.
 pub fn entries_are_short()
-    ensures round { (seed round : ℕ) → All (λ e. length (held_octets e) ≤ 65542) (made.round_entries seed round) }
+    ensures round { (seed round : ℕ) → All IsShortEntry (made.round_entries seed round) }
     ensures few { (seed round : ℕ) → length (made.round_entries seed round) ≤ 32 }
-    ensures late { (seed count : ℕ) → All (λ e. length (held_octets e) ≤ 65542) (made.late_entries seed count) }
+    ensures late { (seed count : ℕ) → All IsShortEntry (made.late_entries seed count) }
     ensures one { (seed count : ℕ) → length (made.late_entries seed count) ≤ 1 }
 {}

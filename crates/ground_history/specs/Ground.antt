@@ -1,5 +1,5 @@
 -- What contracts see of a history, and how its calls answer.
-use Rattle.std.specs.Prelude.{◌≡◌, ℕ, ◌+◌, ◌-◌, ◌%◌, ◌^◌, ◌<◌, ◌≤◌, List, [], ◌∷◌, take, length, map, ⊤, Bool, not, ◌&&◌, ◌||◌, ◌==◌, nat_lt, Option, Some, None, IfSome, Result, Ok, Err, if◌then◌else◌}
+use Rattle.std.specs.Prelude.{◌≡◌, ℕ, ◌+◌, ◌-◌, ◌%◌, ◌^◌, ◌<◌, ◌≤◌, List, [], ◌∷◌, ◌++◌, take, drop, length, map, ⊤, Bool, not, ◌&&◌, ◌||◌, ◌==◌, nat_lt, Option, Some, None, IfSome, Result, Ok, Err, if◌then◌else◌}
 use Rattle.std.specs.List.{AllByRecursion}
 use Rattle.hk_base.specs.Fields.{number_of}
 use Rattle.hk_base.specs.declared.types.RequestId.{RequestId}
@@ -10,7 +10,10 @@ use Rattle.pus_messages.specs.Instructions.{instructions}
 use Rattle.pus_messages.specs.Spelling.{IsRequest, IsReport, HasRoom}
 use Rattle.ground_history.specs.Histories.{Sent, Kept, History, is_own, is_known_begun, sent_short, sent_long, tag_of, newest_tag, history_with_got, history_with_report, number_of_body, stray_id}
 use Rattle.hk_base.specs.declared.types.Memory.{Memory}
+use Rattle.st03_grammar.specs.declared.bodies.Report03.TheVariants as told
 use Rattle.pus_messages.specs.declared.message.Report.{Report}
+use Rattle.pus_messages.specs.declared.message.ReportBody.{ReportBody}
+use Rattle.pus_messages.specs.declared.message.ReportBody.TheVariants as tell
 use Rattle.ground_history.specs.declared.answer.GotKind.{GotKind}
 use Rattle.pus_messages.specs.Protocol.{Protocol}
 use Rattle.ground_history.specs.declared.answer.SentFault.{SentFault}
@@ -112,3 +115,16 @@ IsByTag entries = AllByRecursion (λ e. e.0 ≡ tag_of e.1) entries
 -- the packets of entries
 abbrev pub packets_of : List (ℕ × Kept) → List Kept
 packets_of entries = map (λ e. e.1) entries
+
+-- the payload of a parameter report; nothing of another body
+abbrev pub payload_of : ReportBody → List ℕ
+payload_of (tell.Hk (told.Values key payload)) = payload
+payload_of _ = []
+
+-- octets with those of a payload at a place
+abbrev pub with_payload : List ℕ → ℕ → List ℕ → List ℕ
+with_payload around place payload = take place around ++ (payload ++ drop place around)
+
+-- octets have a payload with so many octets behind it
+abbrev pub HasPayload : ℕ → List ℕ → List ℕ → Type 0
+HasPayload behind payload octets = (front : List ℕ) × (check : List ℕ) × (octets ≡ front ++ (payload ++ check)) × (length check ≡ behind)

@@ -5,7 +5,8 @@ ghost use Rattle.pus_messages.specs.Protocol.{readable};
 ghost use Rattle.ground_history.specs.Histories as histories;
 ghost use Rattle.ground_history.specs.Histories.{tag_of, new_history, sent_answer, got_kind, history_with_sent};
 ghost use Rattle.ground_history.specs.Evidence as evidence;
-ghost use Rattle.pus_messages.specs.Spelling.{IsReport, HasRoom};
+ghost use Rattle.pus_packet.specs.Packets.{checksum_octets};
+ghost use Rattle.pus_messages.specs.Spelling.{IsReportPacket, HasRoom};
 ghost use Rattle.ground_history.specs.Ground.{IsGrounded, HasNumber, IsAnswer, IsCountOf, with_history, is_room_for, got_result, report_result, own_count, answer_by_count};
 
 use crate::answer::{GotKind, Outcome, SentFault};
@@ -373,7 +374,7 @@ impl History {
 
     /// A report that was received: what becomes of it.
     fn got_report(&mut self, bytes: &[u8], report: Report) -> Result<GotKind, Memory>
-        requires grammar { IsReport self.old.tailoring report }
+        requires spelled { IsReportPacket self.old.tailoring report bytes.now }
         requires short { HasRoom report.body }
         ensures kind { IfOk result (λ kind. kind ≡ histories.kind_by_reception self.old.history bytes.now (readable report)) }
         ensures state { self.new ≡ with_history self.old (report_result self.old.history bytes.now report result) }
@@ -384,7 +385,7 @@ impl History {
             Err(id) => return Ok(GotKind::Stray(id.word)),
         };
         if let Some(kept) = self.kept.with_tag(tag) {
-            return Ok(if kept.packet() == bytes {
+            return Ok(if kept.is_same(bytes) {
                 GotKind::Repeat(tag)
             } else {
                 GotKind::Conflict(tag)
@@ -408,19 +409,31 @@ impl History {
         }
     }
 
+    /// The number of octets behind the body of a report: those of its checksum.
+    fn behind(&self) -> usize
+        ensures { result ≡ checksum_octets self.now.tailoring.widths.tm_checksum }
+    {
+        if self.tailoring.widths().tm_checksum {
+            2
+        } else {
+            0
+        }
+    }
+
     /// Keeps a packet, and what it shows.
     fn keep(&mut self, bytes: &[u8], report: Report, number: Option<u64>) -> Result<(), Memory>
         requires number { number ≡ histories.number_of_body self.old.history report.header.tag report.body }
         requires sent { IfSome number (λ k. k < 2 ^ 63) }
         requires absent { histories.kept_at self.old.history report.header.tag ≡ None }
-        requires grammar { IsReport self.old.tailoring report }
+        requires spelled { IsReportPacket self.old.tailoring report bytes.now }
         requires short { HasRoom report.body }
         ensures kept { OnOk result (self.new ≡ with_history self.old (histories.with_kept self.old.history bytes.now report)) }
         ensures same { OnErr result (self.new ≡ self.old) }
     {
         let tag = report.header.tag;
+        let behind = self.behind();
         self.evidence.make_room_for(number, &report.body)?;
-        let packet = KeptPacket::new(self.alloc, bytes, report, number)?;
+        let packet = KeptPacket::new(self.alloc, bytes, behind, report, number)?;
         self.kept.keep(packet)?;
         let Some(kept) = self.kept.with_tag(tag) else {
             unreachable!();

@@ -1,10 +1,12 @@
-ghost use Rattle.std.specs.Prelude.{◌≡◌, ◌∷◌, [], None, Some, find, nat_le, ◌==◌, IfOk, OnOk, OnErr, length, map, slice_get};
-ghost use Rattle.std.specs.Option.{option_copied};
+ghost use Rattle.std.specs.Prelude.{◌≡◌, ◌+◌, ◌≤◌, ◌++◌, ◌∷◌, ℕ, List, [], None, Some, false, find, nat_le, ◌==◌, IfOk, OnOk, OnErr, bytes_eq, drop, length, map, slice_get, take};
+ghost use Rattle.std.specs.Option.{option_copied, option_map_or};
+ghost use Rattle.ground_history.specs.Ground.{HasPayload, payload_of};
 ghost use Rattle.ground_history.specs.Histories.{tag_of, greatest, insert_kept};
 ghost use Rattle.ground_history.specs.Histories as histories;
 
 use hk_base::{Items, Memory, Octets};
-use pus_messages::Report;
+use pus_messages::{Report, ReportBody};
+use st03_grammar::Report03;
 use std::alloc::Global;
 use std::collections::BTreeMap;
 use std::collections::btree_map::Values;
@@ -19,36 +21,49 @@ pub struct KeptPacket {
 
 #[derive(Debug, Drop)]
 struct Contents {
-    packet: Octets,
+    /// The packet without the payload of a parameter report, which the report has.
+    around: Octets,
+    /// Where the payload is in the packet.
+    place: usize,
     report: Report,
     number: Option<u64>,
 }
 
 impl Model for KeptPacket {
+    ghost use Rattle.std.specs.Prelude.{◌≤◌, length};
     ghost use Rattle.ground_history.specs.Histories.{Kept};
+    ghost use Rattle.ground_history.specs.Ground.{payload_of, with_payload};
 
     ghost Value = { Kept };
 
-    ghost view = { λ kept. record { packet = kept.contents.value.packet; report = kept.contents.value.report; number = kept.contents.value.number } };
+    ghost view = { λ kept. record { packet = with_payload kept.contents.value.around kept.contents.value.place (payload_of kept.contents.value.report.body); report = kept.contents.value.report; number = kept.contents.value.number } };
+
+    ghost invariant = { λ kept. kept.contents.value.place ≤ length kept.contents.value.around };
 }
 
 impl KeptPacket {
+    /// A packet with so many octets behind its payload.
     pub(crate) fn new(
         alloc: Global,
         bytes: &[u8],
+        behind: usize,
         report: Report,
         number: Option<u64>,
     ) -> Result<KeptPacket, Memory>
+        requires { HasPayload behind (payload_of report.body) bytes.now }
         ensures { IfOk result (λ kept. kept ≡ record { packet = bytes.now; report = report; number = number }) }
     {
-        let packet = Items::from_slice(alloc, bytes)?;
+        let payload = payload(&report.body).len();
+        let place = bytes.len() - behind - payload;
         let contents = Contents {
-            packet,
+            around: without(alloc, bytes, place, payload)?,
+            place,
             report,
             number,
         };
-        let contents = Box::new(alloc, contents)?;
-        Ok(KeptPacket { contents })
+        Ok(KeptPacket {
+            contents: Box::new(alloc, contents)?,
+        })
     }
 
     pub fn tag(&self) -> u64
@@ -64,10 +79,19 @@ impl KeptPacket {
         self.contents.number
     }
 
-    pub(crate) fn packet(&self) -> &[u8]
-        ensures { result.now ≡ self.now.packet }
+    /// Whether it has these octets.
+    pub(crate) fn is_same(&self, bytes: &[u8]) -> bool
+        ensures { result ≡ bytes_eq self.now.packet bytes.now }
     {
-        self.contents.packet.as_slice()
+        let contents = &self.contents;
+        let (front, behind) = contents.around.as_slice().split_at(contents.place);
+        match after(bytes, front) {
+            Some(rest) => match after(rest, payload(&contents.report.body)) {
+                Some(rest) => behind == rest,
+                None => false,
+            },
+            None => false,
+        }
     }
 
     pub fn report(&self) -> &Report
@@ -75,6 +99,34 @@ impl KeptPacket {
     {
         &self.contents.report
     }
+}
+
+/// The payload of a parameter report; nothing of another body.
+fn payload(body: &ReportBody) -> &[u8]
+    ensures { result.now ≡ payload_of body.now }
+{
+    match body {
+        ReportBody::Hk(Report03::Values(_, payload)) => payload.as_slice(),
+        _ => &[],
+    }
+}
+
+/// Octets without so many at a place.
+fn without(alloc: Global, bytes: &[u8], place: usize, count: usize) -> Result<Octets, Memory>
+    requires { place + count ≤ length bytes.now }
+    ensures { IfOk result (λ around. around ≡ take place bytes.now ++ drop (place + count) bytes.now) }
+{
+    let mut around = Vec::with_capacity(alloc, bytes.len() - count)?;
+    around.extend_from_slice(&bytes[..place])?;
+    around.extend_from_slice(&bytes[place + count..])?;
+    Ok(Items::from_vec(around))
+}
+
+/// What follows a front, if octets begin with it.
+fn after<'a>(bytes: &'a [u8], front: &[u8]) -> Option<&'a [u8]>
+    ensures { (more : List ℕ) → option_map_or (λ rest. bytes_eq more rest.now) result false ≡ bytes_eq (front.now ++ more) bytes.now }
+{
+    bytes.strip_prefix(front)
 }
 
 /// The packets that were kept, in the order of their tags.

@@ -8,3 +8,4 @@ pub mod ArrayLemmas
 pub mod DefinitionLemmas
 pub mod StructureLemmas
 pub mod FileLemmas
+pub mod IdLemmas

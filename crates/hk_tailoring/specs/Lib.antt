@@ -7,3 +7,4 @@ pub mod Structures
 pub mod Sizes
 pub mod Files
 pub mod Texts
+pub mod Ids

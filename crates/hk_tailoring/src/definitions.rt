@@ -1,15 +1,18 @@
 //! Whether a definition that a document states is valid.
-ghost use Rattle.std.specs.Prelude.{◌≡◌, ◌≤◌, ◌++◌, ◌∷◌, [], ◌==◌, ◌%◌, false, IfOk, OnOk, IsTrue, All, codes, length, map, is_some, find};
+ghost use Rattle.std.specs.Prelude.{◌≡◌, ◌≤◌, ◌++◌, ◌∷◌, [], ℕ, List, ◌==◌, ◌||◌, ◌%◌, false, IfOk, OnOk, IsTrue, All, codes, length, map, is_some, find};
 ghost use Rattle.std.specs.List.{AllByRecursion, list_any};
 ghost use Rattle.hk_base.specs.Definitions.{parameter_ids as ids_of, first_repeat, IsWellFormed};
 ghost use Rattle.hk_base.specs.Fit.{IsFitWidths, IsFitParam, IsWithin};
 ghost use Rattle.hk_base.specs.Payload.{IsValid};
+ghost use Rattle.hk_base.specs.declared.types.Param.{Param};
 ghost use Rattle.hk_tailoring.specs.Checks.{Passes};
+ghost use Rattle.hk_tailoring.specs.Ids.{has_id, AreSame, AreIdsOf};
 ghost use Rattle.hk_tailoring.specs.Keys.{section_of};
 ghost use Rattle.hk_tailoring.specs.Sizes.{IsFitDefinition};
 ghost use Rattle.hk_tailoring.specs.Structures.{bounds_of, id_checks, ids_checks, repetition_checks, width_check, definition_checks, size_of};
 
 use crate::fault::TailoringFault;
+use crate::ids::IdSet;
 use crate::section::Section;
 use hk_base::{Definition, Memory, Param, SuperList, Widths, payload_size};
 use std::alloc::Global;
@@ -25,33 +28,29 @@ fn parameter_ids(alloc: Global, def: &Definition) -> Result<Vec<u32>, Memory>
     Ok(ids)
 }
 
-/// Whether there is a parameter with this ID.
-fn is_known(params: &[Param], id: u32) -> bool
-    ensures { result ≡ list_any (λ p. p.id == id) params.now }
-{
-    params.iter().any(|param| param.id == id)
-}
-
-/// A parameter ID is known, and isn't among those before.
+/// A parameter ID is known, and isn't among those before. It is among them afterwards.
 #[tactic(auto, unfolding(crate::specs::Structures::id_checks))]
-fn check_id(params: &[Param], earlier: &[u32], id: u32) -> Result<(), TailoringFault>
-    ensures checked { Passes (id_checks params.now earlier.now id) result }
+fn check_id(known: &IdSet, earlier: &mut IdSet, id: u32) -> Result<(), TailoringFault>
+    ensures checked { (params : List Param) (ids : List ℕ) → AreIdsOf params known.now → AreSame earlier.old ids → Passes (id_checks params ids id) result }
+    ensures earlier { OnOk result ((x : ℕ) → has_id earlier.new x ≡ (id == x || has_id earlier.old x)) }
 {
-    if !is_known(params, id) {
+    if !known.has(id) {
         return Err(TailoringFault::UnknownParam(id));
     }
-    if earlier.contains(&id) {
+    let new = earlier.add(id)?;
+    if !new {
         return Err(TailoringFault::Doubled(id));
     }
     Ok(())
 }
 
 /// Each parameter ID is known, and none stands twice.
-fn check_ids(params: &[Param], ids: &[u32]) -> Result<(), TailoringFault>
-    ensures checked { Passes (ids_checks params.now [] ids.now) result }
+fn check_ids(alloc: Global, known: &IdSet, ids: &[u32]) -> Result<(), TailoringFault>
+    ensures checked { (params : List Param) → AreIdsOf params known.now → Passes (ids_checks params [] ids.now) result }
 {
-    for (n, id) in ids.iter().enumerate() {
-        check_id(params, &ids[..n], *id)?;
+    let mut earlier = IdSet::new(alloc);
+    for id in ids {
+        check_id(known, &mut earlier, *id)?;
     }
     Ok(())
 }
@@ -91,10 +90,12 @@ pub fn check_definition(
     section: &Section<'_>,
     widths: &Widths,
     params: &[Param],
+    known: &IdSet,
     def: &Definition,
 ) -> Result<(), TailoringFault>
     requires widths { IsFitWidths widths.now }
     requires params { AllByRecursion (IsFitParam widths.now) params.now }
+    requires known { AreIdsOf params.now known.now }
     requires sizes { IsFitDefinition widths.now def.now }
     ensures checked { Passes (definition_checks (bounds_of widths.now) params.now (section_of section.now) def.now) result }
     ensures valid { OnOk result (IsValid (record { widths = widths.now; params = params.now; boots = [] }) def.now) }
@@ -104,7 +105,7 @@ pub fn check_definition(
     if ids.is_empty() {
         return Err(section.out_of_range("simple", 0));
     }
-    check_ids(params, ids)?;
+    check_ids(section.alloc, known, ids)?;
     check_repetitions(def.interval, def.arrays.as_slice())?;
     check_size(widths, params, def)?;
     Ok(())

@@ -5,6 +5,7 @@ ghost use Rattle.hk_tailoring.specs.Keys.{section_of};
 ghost use Rattle.hk_tailoring.specs.Files.{document, document_checks, tree_of, file_fault, IsOf, Stands};
 
 use crate::fault::TailoringFault;
+use crate::ids::IdSet;
 use crate::params::read_params;
 use crate::section::{Place, Section, TableKind};
 use crate::structures::read_structures;
@@ -46,8 +47,9 @@ fn tailoring_of(document: &Section<'_>) -> Result<Tailoring, TailoringFault>
     let param_tables = document.needed_tables("parameter", 1, 512)?;
     let structure_tables = document.tables("structure", 0, 64)?;
     document.only(TableKind::Document)?;
-    let params = read_params(alloc, &widths, param_tables)?;
-    let boots = read_structures(alloc, &widths, params.as_slice(), structure_tables)?;
+    let mut ids = IdSet::new(alloc);
+    let params = read_params(alloc, &mut ids, &widths, param_tables)?;
+    let boots = read_structures(alloc, &widths, params.as_slice(), &ids, structure_tables)?;
     let tailoring = Tailoring::new(
         alloc,
         widths,

@@ -5,6 +5,7 @@ mod arrays;
 mod definitions;
 mod fault;
 mod file;
+mod ids;
 mod keys;
 mod known;
 mod lists;

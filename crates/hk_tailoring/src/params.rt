@@ -7,6 +7,7 @@ ghost use Rattle.toml.specs.View.{view};
 ghost use Rattle.hk_base.specs.Parameters.{fits as value_fits};
 ghost use Rattle.hk_base.specs.Fit.{IsWithin, IsFitForm, IsFitShape, IsFitParam};
 ghost use Rattle.hk_tailoring.specs.Checks.{Answers, Passes};
+ghost use Rattle.hk_tailoring.specs.Ids.{AreIdsOf};
 ghost use Rattle.hk_tailoring.specs.Keys.{section_of};
 ghost use Rattle.hk_tailoring.specs.Params as params;
 ghost use Rattle.hk_tailoring.specs.Params.{form_checks, form_name_in, bits_checks, bits_in, values_checks, form_of};
@@ -14,6 +15,7 @@ ghost use Rattle.hk_tailoring.specs.Params.{initial_checks, initial_in, param_ch
 ghost use Rattle.hk_tailoring.specs.declared.section.Place.TheVariants.{Parameter};
 
 use crate::fault::TailoringFault;
+use crate::ids::IdSet;
 use crate::keys::greatest_in;
 use crate::section::{Place, Section, TableKind};
 use hk_base::{Form, Param, Widths, fits};
@@ -152,40 +154,39 @@ fn read_param(section: &Section<'_>, widths: &Widths) -> Result<Param, Tailoring
     Ok(param)
 }
 
-/// Whether a parameter has this ID.
-fn has_id(params: &[Param], id: u32) -> bool
-    ensures { result ≡ list_any (λ e. e.id == id) params.now }
-{
-    params.iter().any(|param| param.id == id)
-}
-
-/// Reads the parameter that a table states, and puts it last.
+/// Reads the parameter that a table states, and puts it last. Its ID is among those before afterwards.
 #[tactic(auto, unfolding(crate::specs::Params::next_param_checks))]
 fn add_param(
     params: &mut Vec<Param>,
+    ids: &mut IdSet,
     section: &Section<'_>,
     widths: &Widths,
 ) -> Result<(), TailoringFault>
-    requires { IsWithin 1 2 widths.now.parameter_octets }
+    requires octets { IsWithin 1 2 widths.now.parameter_octets }
+    requires ids { AreIdsOf params.old.items ids.old }
     ensures checked { Passes (next_param_checks widths.now.parameter_octets widths.now.packed params.old.items (section_of section.now)) result }
     ensures added { OnOk result (params.new.items ≡ params.old.items ++ param_in widths.now.packed (section_of section.now) ∷ []) }
     ensures fit { OnOk result (IsFitParam widths.now (param_in widths.now.packed (section_of section.now))) }
     ensures other { OnOk result (list_any (λ e. e.id == (param_in widths.now.packed (section_of section.now)).id) params.old.items ≡ false) }
+    ensures ids { OnOk result (AreIdsOf params.new.items ids.new) }
 {
     let param = read_param(section, widths)?;
-    if has_id(params.as_slice(), param.id) {
+    let new = ids.add(param.id)?;
+    if !new {
         return Err(TailoringFault::RepeatedParam(param.id));
     }
     params.push(param)?;
     Ok(())
 }
 
-/// The parameters that the tables of a document state.
+/// The parameters that the tables of a document state. Their IDs are put into an empty set.
 pub fn read_params(
     alloc: Global,
+    ids: &mut IdSet,
     widths: &Widths,
     tables: &[Value],
 ) -> Result<Vec<Param>, TailoringFault>
+    requires none { ids.old ≡ [] }
     requires octets { IsWithin 1 2 widths.now.parameter_octets }
     requires tables { AllPass (λ value. is_some (as_table (view value))) tables.now }
     ensures checked { Passes (params_checks widths.now.parameter_octets widths.now.packed [] (sections Parameter 0 (map view tables.now))) result }
@@ -193,11 +194,12 @@ pub fn read_params(
     ensures count { IfOk result (λ params. length params.items ≡ length tables.now) }
     ensures fit { IfOk result (λ params. AllByRecursion (IsFitParam widths.now) params.items) }
     ensures ids { IfOk result (λ params. IsDistinct nat_eq (map (λ param. param.id) params.items)) }
+    ensures known { IfOk result (λ params. AreIdsOf params.items ids.new) }
 {
     let mut params = Vec::new(alloc);
     for (n, value) in tables.iter().enumerate() {
         let section = Section::of_table(alloc, Place::Parameter(n), value);
-        add_param(&mut params, &section, widths)?;
+        add_param(&mut params, ids, &section, widths)?;
     }
     Ok(params)
 }

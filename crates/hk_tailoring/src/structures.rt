@@ -6,6 +6,7 @@ ghost use Rattle.toml.specs.View.{view};
 ghost use Rattle.hk_base.specs.Fit.{IsFitWidths, IsFitParam, IsFitBoot};
 ghost use Rattle.hk_base.specs.Parameters.{key_eq};
 ghost use Rattle.hk_tailoring.specs.Checks.{Answers, Passes};
+ghost use Rattle.hk_tailoring.specs.Ids.{AreIdsOf};
 ghost use Rattle.hk_tailoring.specs.Keys.{section_of};
 ghost use Rattle.hk_tailoring.specs.Sizes.{IsFitDefinition};
 ghost use Rattle.hk_tailoring.specs.Structures as structures;
@@ -16,6 +17,7 @@ ghost use Rattle.hk_tailoring.specs.declared.section.Place.TheVariants as place;
 use crate::arrays::read_arrays;
 use crate::definitions::check_definition;
 use crate::fault::TailoringFault;
+use crate::ids::IdSet;
 use crate::keys::greatest_in;
 use crate::section::{Place, Section, TableKind};
 use hk_base::{Boot, Definition, Items, Key, Kind, Param, Structure, Widths};
@@ -101,9 +103,11 @@ fn add_structure(
     section: &Section<'_>,
     widths: &Widths,
     params: &[Param],
+    known: &IdSet,
 ) -> Result<(), TailoringFault>
     requires widths { IsFitWidths widths.now }
     requires params { AllByRecursion (IsFitParam widths.now) params.now }
+    requires known { AreIdsOf params.now known.now }
     ensures checked { Passes (next_structure_checks (bounds_of widths.now) params.now boots.old.items (section_of section.now)) result }
     ensures added { OnOk result (boots.new.items ≡ boots.old.items ++ boot_in (section_of section.now) ∷ []) }
     ensures fit { OnOk result (IsFitBoot (record { widths = widths.now; params = params.now; boots = [] }) (boot_in (section_of section.now))) }
@@ -113,7 +117,7 @@ fn add_structure(
     if has_key(boots.as_slice(), boot.key) {
         return Err(TailoringFault::RepeatedStructure(boot.key));
     }
-    check_definition(section, widths, params, &boot.structure.def)?;
+    check_definition(section, widths, params, known, &boot.structure.def)?;
     boots.push(boot)?;
     Ok(())
 }
@@ -123,10 +127,12 @@ pub fn read_structures(
     alloc: Global,
     widths: &Widths,
     params: &[Param],
+    known: &IdSet,
     tables: &[Value],
 ) -> Result<Vec<Boot>, TailoringFault>
     requires widths { IsFitWidths widths.now }
     requires params { AllByRecursion (IsFitParam widths.now) params.now }
+    requires known { AreIdsOf params.now known.now }
     requires tables { AllPass (λ value. is_some (as_table (view value))) tables.now }
     ensures checked { Passes (structures_checks (bounds_of widths.now) params.now [] (sections place.Structure 0 (map view tables.now))) result }
     ensures boots { IfOk result (λ boots. boots.items ≡ map boot_in (sections place.Structure 0 (map view tables.now))) }
@@ -137,7 +143,7 @@ pub fn read_structures(
     let mut boots = Vec::new(alloc);
     for (n, value) in tables.iter().enumerate() {
         let section = Section::of_table(alloc, Place::Structure(n), value);
-        add_structure(&mut boots, &section, widths, params)?;
+        add_structure(&mut boots, &section, widths, params, known)?;
     }
     Ok(boots)
 }

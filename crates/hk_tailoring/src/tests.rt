@@ -12,8 +12,6 @@ const PACKED: &str = "[[parameter]]\nid = 7\nkind = \"unsigned\"\nbits = 3\n";
 
 const STRUCTURE: &str = "[[structure]]\nkind = \"housekeeping\"\nid = 1\ninterval = 8\n";
 
-const ARRAY: &str = "[[structure.array]]\nrepetition = 3\nparameters = [7]\n";
-
 /// How many structures a file states, or the text of its fault.
 fn answer(alloc: Global, parts: &[&str]) -> Result<String, AllocError> {
     let mut file = String::new(alloc);
@@ -35,11 +33,10 @@ fn answer(alloc: Global, parts: &[&str]) -> Result<String, AllocError> {
     }
 }
 
-/// One file for each kind of answer. Many more are in tests/tailorings, at the top.
+/// Both versions, and faults at three depths. Each check has its files in tests/tailorings, at the top.
 #[test]
 fn answers(rt: HostRuntime) -> Result<(), Fail> {
     let rows: &[(&[&str], &str)] = &[
-        (&[OCTETS, PARAM], "structures 0"),
         (
             &[OCTETS, PARAM, STRUCTURE, "simple = [7]\n"],
             "structures 1",
@@ -47,35 +44,9 @@ fn answers(rt: HostRuntime) -> Result<(), Fail> {
         (&[BITS, PACKED, STRUCTURE, "simple = [7]\n"], "structures 1"),
         (&["version = 1\nversion = 1\n"], "not toml"),
         (&[OCTETS, PACKED], "missing key parameter[0].octets"),
-        (&["version = 1.0\n"], "wrong kind version"),
-        (&["version = 1\napid = 2047\n"], "out of range apid 2047"),
-        (&[OCTETS, "color = 1\n", PARAM], "unknown key color"),
-        (&[OCTETS, PARAM, PARAM], "repeated parameter 7"),
-        (
-            &[OCTETS, PARAM, STRUCTURE, "simple = [7]\n", STRUCTURE],
-            "repeated structure hk 1",
-        ),
-        (
-            &[OCTETS, PARAM, STRUCTURE, "simple = [8]\n"],
-            "unknown parameter 8",
-        ),
         (
             &[OCTETS, PARAM, STRUCTURE, "simple = [7, 7]\n"],
             "doubled parameter 7",
-        ),
-        (
-            &[OCTETS, PARAM, STRUCTURE, ARRAY],
-            "repetition 3 of interval 8",
-        ),
-        (
-            &[
-                OCTETS,
-                "max_payload = 1\n",
-                PARAM,
-                STRUCTURE,
-                "simple = [7]\n",
-            ],
-            "too wide 2",
         ),
     ];
     for (parts, wanted) in rows {

@@ -3,11 +3,10 @@ use Rattle.std.proofs.Common.{arith, ◌≡◌, ℕ, suc, ◌+◌, ◌*◌, ◌�
 use Rattle.std.specs.Prelude.{filter, option_to_list, if◌then◌else◌}
 use Rattle.std.specs.List.{enumerate_from}
 use Rattle.hk_base.specs.declared.types.Key.{Key}
-use Rattle.hk_base.proofs.Membership.{IsIn}
 use Rattle.ground_history.specs.Histories.{Sent, Kept, History, tag_of}
 use Rattle.ground_history.specs.Evidence.{low, high}
 use Rattle.verdict_tables.specs.Places.{reports, can_change, report_places, bound_places, request_places, places, AreFirsts, most_ranges}
-use Rattle.verdict_tables.specs.Tables.{TableParts, RangeParts, StandsFor, HasRanges, ranges_of, range_count}
+use Rattle.verdict_tables.specs.Tables.{RangeParts, HasRanges}
 use Rattle.verdict_tables.proofs.MemberLemmas.{among-IsIn, IsIn-among, rising-few}
 use Rattle.verdict_tables.proofs.RisingLemmas.{rises}
 
@@ -39,9 +38,14 @@ request-count h key n (s ∷ ss) = go (can_change key s) (request-count h key (n
 pub firsts-few : (h : History) (key : Key) (firsts : List ℕ) → AreFirsts h key firsts → length firsts ≤ most_ranges h key
 firsts-few h key firsts are =
     let few = rising-few firsts (0 ∷ places h key) (rises firsts are.rising)
-        (λ n i. among-IsIn n (0 ∷ places h key) (sym (are.members n) ∙ IsIn-among n firsts i)) in
-    omega (arith, few, report-count key h.kept, request-count h key 0 h.requests,
-    length-append (flat_map (report_places key) h.kept) (flat_map (request_places h key) (enumerate_from 0 h.requests)))
+    (λ n i. among-IsIn n (0 ∷ places h key) (sym (are.members n) ∙ IsIn-among n firsts i)) in
+    omega (
+      arith,
+      few,
+      report-count key h.kept,
+      request-count h key 0 h.requests,
+      length-append (flat_map (report_places key) h.kept) (flat_map (request_places h key) (enumerate_from 0 h.requests)),
+    )
 
 -- tables that stand for a history have no more ranges
 pub ranges-few : (h : History) (key : Key) (found : Option RangeParts) (ranges : RangeParts) → HasRanges h key found → found ≡ Some ranges → length ranges.firsts ≤ most_ranges h key

@@ -1,8 +1,7 @@
 -- The structures that a request can change.
-use Rattle.std.proofs.Common.{◌≡◌, ◌∙◌, ℕ, refl, sym, ap, List, [], ◌∷◌, Bool, true, false, inl, inr, ◌⊎◌, Option, Some, None, map}
+use Rattle.std.proofs.Common.{◌≡◌, ◌∙◌, ℕ, refl, sym, ap, List, [], ◌∷◌, Bool, true, false, inl, inr, ◌⊎◌, Some, None, map}
 use Rattle.std.specs.Prelude.{filter_map, if◌then◌else◌}
 use Rattle.std.specs.List.{cons_option}
-use Rattle.hk_base.specs.declared.types.Key.{Key}
 use Rattle.hk_base.specs.declared.types.Kind.{Kind}
 use Rattle.st03_grammar.specs.Instructions.{each_changes, key_of, plain, set_interval}
 use Rattle.st03_grammar.specs.declared.bodies.Each.{Each}

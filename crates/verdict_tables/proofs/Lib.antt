@@ -4,3 +4,9 @@ pub mod KeyLemmas
 pub mod BasesLemmas
 pub mod MemberLemmas
 pub mod CountLemmas
+pub mod CollectLemmas
+pub mod BuildLemmas
+pub mod KeyOrder
+pub mod OpeningLemmas
+pub mod NamedLemmas
+pub mod TableLemmas

@@ -1,8 +1,13 @@
 -- Members of lists of tags.
-use Rattle.std.proofs.Common.{arith, ◌≡◌, ℕ, zero, suc, ◌<◌, ◌≤◌, refl, sym, ◌∙◌, ap, subst, List, [], ◌∷◌, Bool, true, false, ◌==◌, inl, inr, ◌⊎◌, length}
-use Rattle.std.specs.List.{AllByRecursion, list_any}
-use Rattle.std.proofs.lemmas.Bool.{eqb-true, eq-eqb}
-use Rattle.hk_base.proofs.Membership.{IsIn, IsIn-list_any, list_any-IsIn, AllByRecursion-IsIn}
+use Rattle.std.proofs.Common.{arith, ◌≡◌, ℕ, suc, ◌<◌, ◌≤◌, refl, sym, ◌∙◌, ap, subst, List, [], ◌∷◌, ◌++◌, Bool, true, false, ◌==◌, inl, inr, ◌⊎◌, Some, length}
+use lib.Dec.{eqb}
+use Rattle.std.specs.List.Sorted.{IsPermutation}
+use Rattle.std.proofs.lemmas.Option.{slice_get_within, slice_get-get_or, get_or_from_slice_get}
+use Rattle.std.proofs.lemmas.List.Kept.{Contains-dedup_nat, Contains-from_dedup}
+use Rattle.std.proofs.lemmas.List.Sorted.{list_any-IsPermutation}
+use Rattle.std.specs.List.{Contains, dedup}
+use Rattle.std.proofs.lemmas.Bool.{both_ways, eqb-true, eq-eqb}
+use Rattle.hk_base.proofs.Membership.{IsIn, IsIn-left, IsIn-right, IsIn-append, IsIn-index, slice_get-IsIn, IsIn-list_any, list_any-IsIn, AllByRecursion-IsIn}
 use Rattle.verdict_tables.specs.Places.{is_among}
 use Rattle.verdict_tables.proofs.RisingLemmas.{Rises}
 
@@ -41,3 +46,46 @@ rising-few (x ∷ xs) ys r h =
     let p = without x ys (h x (inl refl)) in
     let rest = rising-few xs p.0 r.1 (λ n i. p.1.others n (h n (inr i)) (λ e. omega (arith, e, AllByRecursion-IsIn (λ y. x < y) n xs r.0 i))) in
     omega (arith, rest, p.1.shorter)
+
+IsIn-Contains : (n : ℕ) (xs : List ℕ) → IsIn n xs → Contains xs n
+IsIn-Contains n xs i =
+    let p = IsIn-index n xs i in
+    (p.0, slice_get_within xs p.0 n p.1, get_or_from_slice_get xs p.0 n n p.1)
+
+Contains-IsIn : (n : ℕ) (xs : List ℕ) → Contains xs n → IsIn n xs
+Contains-IsIn n xs c = slice_get-IsIn n xs c.0 (slice_get-get_or xs c.0 n c.1 ∙ ap Some c.2)
+
+same_tests : (a b : Bool) → (a ≡ true → b ≡ true) → (b ≡ true → a ≡ true) → a ≡ b
+same_tests true b f g = sym (f refl)
+same_tests false true f g = absurd (both_ways false refl (g refl))
+same_tests false false f g = refl
+
+-- two lists with the same members
+pub among-same : (xs ys : List ℕ) → ((n : ℕ) → IsIn n xs → IsIn n ys) → ((n : ℕ) → IsIn n ys → IsIn n xs) → (n : ℕ) → is_among n xs ≡ is_among n ys
+among-same xs ys f g n =
+    same_tests (is_among n xs) (is_among n ys) (λ e. IsIn-among n ys (f n (among-IsIn n xs e))) (λ e. IsIn-among n xs (g n (among-IsIn n ys e)))
+
+among-dedup : (xs : List ℕ) (n : ℕ) → is_among n (dedup eqb xs) ≡ is_among n xs
+among-dedup xs n =
+    among-same (dedup eqb xs) xs (λ m i. Contains-IsIn m xs (Contains-from_dedup eqb xs m (IsIn-Contains m (dedup eqb xs) i)))
+    (λ m i. Contains-IsIn m (dedup eqb xs) (Contains-dedup_nat xs m (IsIn-Contains m xs i))) n
+
+-- tags with 0, sorted, each once
+pub among-sorted : (tags pushed sorted found : List ℕ) → pushed ≡ tags ++ 0 ∷ [] → IsPermutation pushed sorted → found ≡ dedup eqb sorted → (n : ℕ) → is_among n found ≡ is_among n (0 ∷ tags)
+among-sorted tags pushed sorted found p moved is n =
+    ap (λ (l : List ℕ). is_among n l) is
+    ∙ (among-dedup sorted n
+    ∙ (sym (list_any-IsPermutation (λ other. other == n) pushed sorted moved)
+    ∙ (ap (λ (l : List ℕ). is_among n l) p ∙ among-same (tags ++ 0 ∷ []) (0 ∷ tags) forth back n)))
+  where
+    from : (m : ℕ) → IsIn m tags ⊎ IsIn m (0 ∷ []) → IsIn m (0 ∷ tags)
+    from m (inl i) = inr i
+    from m (inr (inl e)) = inl e
+    from m (inr (inr i)) = absurd i
+
+    forth : (m : ℕ) → IsIn m (tags ++ 0 ∷ []) → IsIn m (0 ∷ tags)
+    forth m i = from m (IsIn-append m tags (0 ∷ []) i)
+
+    back : (m : ℕ) → IsIn m (0 ∷ tags) → IsIn m (tags ++ 0 ∷ [])
+    back m (inl e) = IsIn-right m tags (0 ∷ []) (inl e)
+    back m (inr i) = IsIn-left m tags (0 ∷ []) i

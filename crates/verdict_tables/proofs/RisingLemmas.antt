@@ -1,5 +1,5 @@
 -- Tags that rise, and how many of them are at a tag or before it.
-use Rattle.std.proofs.Common.{arith, ◌≡◌, ℕ, zero, suc, ◌+◌, ◌-◌, ◌<◌, ◌≤◌, refl, sym, ◌∙◌, ap, subst, List, [], ◌∷◌, Bool, true, false, inl, inr, ◌⊎◌, Option, Some, None, length, add-one}
+use Rattle.std.proofs.Common.{arith, ◌≡◌, ℕ, zero, suc, ◌+◌, ◌<◌, ◌≤◌, refl, ◌∙◌, ap, subst, List, [], ◌∷◌, Bool, true, false, inl, inr, ◌⊎◌, Some, length}
 use Rattle.std.specs.Prelude.{slice_get, filter, nat_le, if◌then◌else◌}
 use Rattle.std.specs.List.{AllByRecursion}
 use Rattle.std.specs.List.Sorted.{IsStrictlyIncreasing, IsStrictlySortedBy}
@@ -7,7 +7,6 @@ use Rattle.std.specs.Ordering.{nat_cmp}
 use Rattle.std.specs.declared.cmp.Ordering.TheVariants.{Less}
 use Rattle.std.proofs.lemmas.Bool.{le-leb, lt-leb, leb-true, leb-false}
 use Rattle.std.proofs.lemmas.Map.Keys.{sorted_from_strictly_increasing, sorted_head, sorted_tail}
-use Rattle.std.proofs.lemmas.Option.{slice_get_within}
 use Rattle.hk_base.proofs.Membership.{IsIn, AllByRecursion-IsIn, slice_get-IsIn}
 use Rattle.verdict_tables.specs.Tables.{begun}
 
@@ -107,10 +106,13 @@ last-of x (y ∷ ys) tag r l = go (nat_le y tag) refl (λ k. last-of y ys tag r.
         let p = rest (leb-true y tag e) in
         (suc p.0, p.1, later p.0 p.1 p.2)
     go false e rest =
-        let high = above-all tag y ys (leb-false y tag e) r.1.0 in
-        (0, x, record {
-          there = refl;
-          low = l;
-          count = one-begun tag x (y ∷ ys) l ∙ ap (λ zs. suc (length zs)) (none-begun tag (y ∷ ys) (leb-false y tag e, high));
-          apart = first-parts (leb-false y tag e) high;
-        })
+        let high = above-all tag y ys (leb-false y tag e) r.1.0 in (
+          0,
+          x,
+          record {
+            there = refl;
+            low = l;
+            count = one-begun tag x (y ∷ ys) l ∙ ap (λ zs. suc (length zs)) (none-begun tag (y ∷ ys) (leb-false y tag e, high));
+            apart = first-parts (leb-false y tag e) high;
+          },
+        )

@@ -1,14 +1,10 @@
 -- A search by halves for the last range that begins at a tag or before it.
-use Rattle.std.proofs.Common.{arith, ◌≡◌, ℕ, zero, suc, ◌+◌, ◌-◌, ◌*◌, ◌/◌, ◌^◌, ◌<◌, ◌≤◌, refl, sym, ◌∙◌, ap, subst, List, [], ◌∷◌, Bool, true, false, Option, Some, None, length}
-use Rattle.std.specs.Prelude.{slice_get, filter, nat_le, if◌then◌else◌}
-use Rattle.std.specs.List.{AllByRecursion}
-use Rattle.std.specs.List.Sorted.{IsStrictlyIncreasing}
-use Rattle.std.proofs.lemmas.Bool.{le-leb, lt-leb}
-use Rattle.std.proofs.lemmas.Option.{slice_get_within, slice_get_past}
-use Rattle.std.proofs.lemmas.Nat.{mul-le}
+use Rattle.std.proofs.Common.{arith, ◌≡◌, ℕ, suc, ◌+◌, ◌-◌, ◌*◌, ◌/◌, ◌^◌, ◌<◌, ◌≤◌, sym, ◌∙◌, ap, subst, Some, length}
+use Rattle.std.specs.Prelude.{slice_get}
+use Rattle.std.proofs.lemmas.Option.{slice_get_within}
 use Rattle.std.proofs.Math.Nat.{pow-succ', mul-le-mul_left}
 use Rattle.hk_base.proofs.Membership.{some_value}
-use Rattle.verdict_tables.specs.Tables.{RangeParts, IsRanges, IsSearched, begun}
+use Rattle.verdict_tables.specs.Tables.{RangeParts, IsRanges, IsSearched}
 use Rattle.verdict_tables.proofs.RisingLemmas.{rises, begun-there}
 
 -- after so many probes the range that is looked for is from one number on and before another

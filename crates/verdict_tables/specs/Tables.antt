@@ -1,5 +1,5 @@
 -- Tables of the ranges of tags in which verdicts on a structure's reports rest on the same basis.
-use Rattle.std.specs.Prelude.{◌≡◌, ◌≢◌, ℕ, ◌+◌, ◌-◌, ◌^◌, ◌<◌, List, [], ◌∷◌, length, filter, slice_get, Bool, nat_le, Option, Some, None, MatchOption, IfSome, unwrap_or, if◌then◌else◌}
+use Rattle.std.specs.Prelude.{◌≡◌, ◌≢◌, ℕ, ◌+◌, ◌-◌, ◌^◌, ◌<◌, List, [], ◌∷◌, length, filter, slice_get, Bool, nat_le, Option, Some, MatchOption, IfSome, unwrap_or, if◌then◌else◌}
 use Rattle.std.specs.Option.{option_map_or}
 use Rattle.std.specs.Map.{lookup}
 use Rattle.std.specs.List.Sorted.{IsStrictlyIncreasing}

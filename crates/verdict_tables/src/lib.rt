@@ -2,10 +2,14 @@
 #![tactic(auto)]
 
 mod bases;
+mod building;
+mod collecting;
 mod keys;
+mod places;
 mod ranges;
 mod start;
 mod steps;
+mod structures;
 mod tables;
 
 pub use ranges::Ranges;

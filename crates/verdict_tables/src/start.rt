@@ -27,11 +27,7 @@ pub(crate) fn start_basis(
     Ok(Basis::Open(Items::from_vec(states), 0))
 }
 
-fn boot_state(
-    alloc: Global,
-    tailoring: &Tailoring,
-    key: Key,
-) -> Result<Option<Structure>, Memory>
+fn boot_state(alloc: Global, tailoring: &Tailoring, key: Key) -> Result<Option<Structure>, Memory>
     ensures state { IfOk result (λ state. state ≡ boot_structure tailoring.now key) }
     ensures formed { IfOk result (IsFormedState tailoring.now) }
 {

@@ -8,14 +8,15 @@ ghost use Rattle.definition_intervals.specs.Verdicts as verdicts;
 ghost use Rattle.verdict_tables.specs.Places.{most_ranges};
 ghost use Rattle.verdict_tables.specs.Tables.{StandsFor, table_verdict, range_count, ranges_of};
 
+use crate::building::built;
 use crate::ranges::Ranges;
 use crate::start::start_basis;
 use crate::steps::Steps;
-use definition_intervals::{Verdict, verdict_on};
+use crate::structures::Structures;
+use definition_intervals::{Verdict, bases_decide, verdict_on};
 use ground_history::History;
 use hk_base::{Key, Memory, Tailoring};
 use std::alloc::Global;
-use std::collections::BTreeMap;
 use std::marker::Model;
 use std::sync::ledger::Ledger;
 
@@ -26,7 +27,7 @@ pub struct Tables {
     /// None before they stand for a history.
     tailoring: Option<Tailoring>,
     known: bool,
-    structures: BTreeMap<Key, Ranges>,
+    structures: Structures,
 }
 
 impl Model for Tables {
@@ -34,9 +35,9 @@ impl Model for Tables {
 
     ghost Value = { TableParts };
 
-    ghost view = { λ t. record { tailoring = t.tailoring; known = t.known; structures = t.structures.entries } };
+    ghost view = { λ t. record { tailoring = t.tailoring; known = t.known; structures = t.structures } };
 
-    ghost invariant = { λ t. AreFormed (record { tailoring = t.tailoring; known = t.known; structures = t.structures.entries }) };
+    ghost invariant = { λ t. AreFormed (record { tailoring = t.tailoring; known = t.known; structures = t.structures }) };
 }
 
 impl Tables {
@@ -49,7 +50,7 @@ impl Tables {
             alloc,
             tailoring: None,
             known: false,
-            structures: BTreeMap::new(alloc),
+            structures: Structures::new(alloc),
         }
     }
 
@@ -58,8 +59,13 @@ impl Tables {
         ensures stands { OnOk result (StandsFor self.new history.now) }
         ensures same { OnErr result (self.new ≡ self.old) }
     {
-        let _start = history.known();
-        Err(Memory)
+        bases_decide();
+        let tailoring = history.tailoring().copy(self.alloc)?;
+        let structures = built(self.alloc, history)?;
+        self.tailoring = Some(tailoring);
+        self.known = history.known();
+        self.structures = structures;
+        Ok(())
     }
 
     /// The verdict on a report of a structure with this tag and payload, in time with the logarithm of the number of ranges.
@@ -97,6 +103,6 @@ impl Tables {
     pub fn ranges(&self, key: Key) -> Option<&Ranges>
         ensures { option_copied result ≡ ranges_of self.now key }
     {
-        self.structures.get(&key)
+        self.structures.get(key)
     }
 }

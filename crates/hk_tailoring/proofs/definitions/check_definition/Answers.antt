@@ -45,7 +45,7 @@ returns-in_err-check_ids-clause-checked c =
     let by_ids = ap (λ xs. first_fault (ids_checks ps [] xs)) (sym is) in
     let fault = c.in_err-check_ids.field-0.0 in
     passes-exit (first ++ (second ++ (third ++ fourth))) c.from_residual-in_err-check_ids.result fault c.from_residual-in_err-check_ids.ensures.1
-    (λ not_memory. first_fault-passed first (second ++ (third ++ fourth)) (some-checked s d ids is some) ∙ (first_fault-stopped second (third ++ fourth) fault (by_ids ∙ c.in_err-check_ids.ensures.checked not_memory)))
+    (λ not_memory. first_fault-passed first (second ++ (third ++ fourth)) (some-checked s d ids is some) ∙ (first_fault-stopped second (third ++ fourth) fault (by_ids ∙ c.in_err-check_ids.ensures.checked ps c.requires.known not_memory)))
 
 pub returns-in_err-check_repetitions-clause-checked : goal.returns-in_err-check_repetitions-clause-checked
 unfolding definition_checks
@@ -65,7 +65,7 @@ returns-in_err-check_repetitions-clause-checked c =
     let by_arrays = ap (λ (xs : List SuperList). first_fault (repetition_checks d.interval xs)) (sym c.as_slice.ensures) in
     let fault = c.in_err-check_repetitions.field-0.0 in
     passes-exit (first ++ (second ++ (third ++ fourth))) c.from_residual-in_err-check_repetitions.result fault c.from_residual-in_err-check_repetitions.ensures.1
-    (λ not_memory. first_fault-passed first (second ++ (third ++ fourth)) (some-checked s d ids is some) ∙ (first_fault-passed second (third ++ fourth) (by_ids ∙ c.in_ok-check_ids.ensures.checked) ∙ (first_fault-stopped third fourth fault (by_arrays ∙ c.in_err-check_repetitions.ensures.checked not_memory))))
+    (λ not_memory. first_fault-passed first (second ++ (third ++ fourth)) (some-checked s d ids is some) ∙ (first_fault-passed second (third ++ fourth) (by_ids ∙ c.in_ok-check_ids.ensures.checked ps c.requires.known) ∙ (first_fault-stopped third fourth fault (by_arrays ∙ c.in_err-check_repetitions.ensures.checked not_memory))))
 
 pub returns-in_err-check_size-clause-checked : goal.returns-in_err-check_size-clause-checked
 unfolding definition_checks
@@ -85,7 +85,7 @@ returns-in_err-check_size-clause-checked c =
     let by_arrays = ap (λ (xs : List SuperList). first_fault (repetition_checks d.interval xs)) (sym c.as_slice.ensures) in
     let fault = c.in_err-check_size.field-0.0 in
     passes-exit (first ++ (second ++ (third ++ fourth))) c.from_residual-in_err-check_size.result fault c.from_residual-in_err-check_size.ensures.1
-    (λ not_memory. first_fault-passed first (second ++ (third ++ fourth)) (some-checked s d ids is some) ∙ (first_fault-passed second (third ++ fourth) (by_ids ∙ c.in_ok-check_ids.ensures.checked) ∙ (first_fault-passed third fourth (by_arrays ∙ c.in_ok-check_repetitions.ensures.checked) ∙ (c.in_err-check_size.ensures.checked not_memory))))
+    (λ not_memory. first_fault-passed first (second ++ (third ++ fourth)) (some-checked s d ids is some) ∙ (first_fault-passed second (third ++ fourth) (by_ids ∙ c.in_ok-check_ids.ensures.checked ps c.requires.known) ∙ (first_fault-passed third fourth (by_arrays ∙ c.in_ok-check_repetitions.ensures.checked) ∙ (c.in_err-check_size.ensures.checked not_memory))))
 
 pub returns-clause-checked : goal.returns-clause-checked
 unfolding definition_checks
@@ -103,7 +103,7 @@ returns-clause-checked c =
     let fourth = width_check w.max_payload ps d ∷ [] in
     let by_ids = ap (λ xs. first_fault (ids_checks ps [] xs)) (sym is) in
     let by_arrays = ap (λ (xs : List SuperList). first_fault (repetition_checks d.interval xs)) (sym c.as_slice.ensures) in
-    first_fault-passed first (second ++ (third ++ fourth)) (some-checked s d ids is some) ∙ (first_fault-passed second (third ++ fourth) (by_ids ∙ c.in_ok-check_ids.ensures.checked) ∙ (first_fault-passed third fourth (by_arrays ∙ c.in_ok-check_repetitions.ensures.checked) ∙ c.in_ok-check_size.ensures.checked))
+    first_fault-passed first (second ++ (third ++ fourth)) (some-checked s d ids is some) ∙ (first_fault-passed second (third ++ fourth) (by_ids ∙ c.in_ok-check_ids.ensures.checked ps c.requires.known) ∙ (first_fault-passed third fourth (by_arrays ∙ c.in_ok-check_repetitions.ensures.checked) ∙ c.in_ok-check_size.ensures.checked))
 
 pub returns-clause-valid : goal.returns-clause-valid
 returns-clause-valid c =
@@ -118,7 +118,7 @@ returns-clause-valid c =
     let by_arrays = ap (λ (xs : List SuperList). first_fault (repetition_checks d.interval xs)) (sym c.as_slice.ensures) in
     let t : TailoringParts = record { widths = w; params = ps; boots = [] } in
     let formed : IsWellFormed t d =
-    well-formed t d c.requires.sizes (subst (λ xs. 0 < length xs) is some) (by_ids ∙ c.in_ok-check_ids.ensures.checked) (by_arrays ∙ c.in_ok-check_repetitions.ensures.checked) in
+    well-formed t d c.requires.sizes (subst (λ xs. 0 < length xs) is some) (by_ids ∙ c.in_ok-check_ids.ensures.checked ps c.requires.known) (by_arrays ∙ c.in_ok-check_repetitions.ensures.checked) in
     record { formed = formed; narrow = c.in_ok-check_size.ensures.narrow }
 
 pub check_size-requires-clause-formed : goal.check_size-requires-clause-formed
@@ -134,7 +134,7 @@ check_size-requires-clause-formed c =
     let by_arrays = ap (λ (xs : List SuperList). first_fault (repetition_checks d.interval xs)) (sym c.as_slice.ensures) in
     let t : TailoringParts = record { widths = w; params = ps; boots = [] } in
     let formed : IsWellFormed t d =
-    well-formed t d c.requires.sizes (subst (λ xs. 0 < length xs) is some) (by_ids ∙ c.in_ok-check_ids.ensures.checked) (by_arrays ∙ c.in_ok-check_repetitions.ensures.checked) in
+    well-formed t d c.requires.sizes (subst (λ xs. 0 < length xs) is some) (by_ids ∙ c.in_ok-check_ids.ensures.checked ps c.requires.known) (by_arrays ∙ c.in_ok-check_repetitions.ensures.checked) in
     formed
 
 pub check_repetitions-requires : goal.check_repetitions-requires

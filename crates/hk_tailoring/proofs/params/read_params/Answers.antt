@@ -1,12 +1,13 @@
-use Rattle.std.proofs.Common.{◌≡◌, ◌∙◌, ◌++◌, ◌+◌, ap, sym, subst, map, drop, length, nat_eq}
+use Rattle.std.proofs.Common.{◌≡◌, ◌∙◌, ◌++◌, ◌+◌, ◌==◌, List, ap, sym, subst, map, drop, length, nat_eq}
 use Rattle.std.proofs.lemmas.List.{length_push}
-use Rattle.std.specs.List.{AllByRecursion, IsDistinct}
+use Rattle.std.specs.List.{AllByRecursion, IsDistinct, list_any}
 use Rattle.toml.specs.View.{view}
 use Rattle.hk_base.specs.Fit.{IsFitParam}
 use Rattle.hk_base.specs.declared.types.Param.{Param}
 use Rattle.hk_tailoring.specs.declared.section.Place.TheVariants.{Parameter}
 use Rattle.hk_tailoring.specs.Checks.{first_fault}
 use Rattle.hk_tailoring.specs.Keys.{section_of}
+use Rattle.hk_tailoring.specs.Ids.{has_id}
 use Rattle.hk_tailoring.specs.Params.{param_in, sections}
 use Rattle.hk_tailoring.proofs.CheckLemmas.{passes-exit}
 use Rattle.hk_tailoring.proofs.ListLemmas.{AllByRecursion-push}
@@ -26,6 +27,7 @@ loop-n-init c =
       count = ap (λ ps. length ps) none;
       fit = subst (λ ps. AllByRecursion (IsFitParam w) ps) (sym none) tt;
       ids = subst (λ ps. IsDistinct nat_eq (map (λ (p : Param). p.id) ps)) (sym none) tt;
+      known = λ id. ap (λ ids. has_id ids id) c.requires.none ∙ ap (λ (ps : List Param). list_any (λ p. p.id == id) ps) (sym none);
     }
 
 pub returns-in_err-add_param-clause-checked : goal.returns-in_err-add_param-clause-checked
@@ -65,4 +67,5 @@ loop-n-preserved c =
       ids =
           subst (λ ps. IsDistinct nat_eq (map (λ (q : Param). q.id) ps)) (sym added)
           (distinct-push nat_eq (λ (q : Param). q.id) before p c.loop-n.invariant.ids c.in_ok-add_param.ensures.other);
+      known = c.in_ok-add_param.ensures.ids;
     }

@@ -3,6 +3,7 @@ use Rattle.std.specs.List.{AllByRecursion, IsDistinct}
 use Rattle.toml.specs.View.{view}
 use Rattle.hk_base.specs.Fit.{IsFitParam}
 use Rattle.hk_tailoring.specs.declared.section.Place.TheVariants.{Parameter}
+use Rattle.hk_tailoring.specs.Ids.{AreIdsOf}
 use Rattle.hk_tailoring.specs.Params.{param_in, sections}
 use Rattle.hk_tailoring.proofs.ParamLemmas.{SameFault}
 use Rattle.hk_tailoring.proofs.params.read_params.Given as goal
@@ -15,4 +16,5 @@ invariant-loop-n l = record {
   count : length l.params.items ≡ l.n;
   fit : AllByRecursion (IsFitParam l.widths) l.params.items;
   ids : IsDistinct nat_eq (map (λ p. p.id) l.params.items);
+  known : AreIdsOf l.params.items l.ids;
 }

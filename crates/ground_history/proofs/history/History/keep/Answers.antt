@@ -4,11 +4,12 @@ use Rattle.std.specs.Prelude.{find, ◌==◌}
 use Rattle.std.specs.Option.{IfSome, option_copied}
 use Rattle.std.proofs.lemmas.Option.{same_Some}
 use Rattle.pus_messages.specs.Spelling.{IsReport, HasRoom}
-use Rattle.ground_history.specs.Ground.{Ground, IsGrounded}
+use Rattle.ground_history.specs.Ground.{Ground, IsGrounded, HasPayload, payload_of}
 use Rattle.ground_history.specs.Histories.{Kept, tag_of, insert_kept}
 use Rattle.ground_history.specs.Indexes.{HasRoomFor, Says}
 use Rattle.ground_history.specs.contracts.history.History.{the_view}
 use Rattle.ground_history.proofs.GroundedLemmas.{with_kept_packets, grounded-kept}
+use Rattle.ground_history.proofs.KeptOctets.{has-payload}
 use Rattle.ground_history.proofs.KeptMapLemmas.{kept-found}
 use Rattle.ground_history.proofs.history.History.keep.Goals as goal
 
@@ -56,7 +57,7 @@ invariant_of-self-2 c =
     let found = kept-found c.args.report.header.tag c.self.inside.kept c.keep.new.self c.in_ok-packet.packet (sym (ap tag_of c.in_ok-packet.ensures)) absent c.in_ok-keep.ensures.kept in
     let is = same_Some _ _ (c.in-Some.ensures ∙ found) in
     let says = c.note_kept.ensures c.self.inside.kept (c.make_room_for.ensures.same c.self.inside.kept c.self.invariant.0) in
-    let report = subst (λ (g : Ground). IsReport g.tailoring c.args.report) (sym c.self.view_is) c.requires.grammar in
+    let report = subst (λ (g : Ground). IsReport g.tailoring c.args.report) (sym c.self.view_is) c.requires.spelled.message in
     let grammar = subst (λ (x : Kept). IsReport c.self.inside.tailoring x.report) (sym c.in_ok-packet.ensures) report in
     let short = subst (λ (x : Kept). HasRoom x.report.body) (sym c.in_ok-packet.ensures) c.requires.short in
     let unkept = subst (λ (x : Kept). find (λ k. tag_of k == tag_of x) c.self.inside.kept ≡ None) (sym c.in_ok-packet.ensures) absent in (
@@ -64,3 +65,8 @@ invariant_of-self-2 c =
       subst (λ (ks : List Kept). IsGrounded (with_kept_packets (the_view c.self.inside) ks)) (sym c.in_ok-keep.ensures.kept)
           (grounded-kept (the_view c.self.inside) c.in_ok-packet.packet c.self.invariant.1 unkept grammar short),
     )
+
+pub new-requires : goal.new-requires
+new-requires c =
+    subst (λ n. HasPayload n (payload_of c.args.report.body) c.args.bytes.now) (sym c.behind-behind.ensures)
+    (has-payload c.args.self.now.tailoring c.args.report c.args.bytes.now c.requires.spelled)

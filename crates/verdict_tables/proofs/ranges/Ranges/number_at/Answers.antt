@@ -1,4 +1,4 @@
-use Rattle.std.proofs.Common.{arith, ◌≡◌, ◌-◌, ◌+◌, ◌≤◌, ◌<◌, refl}
+use Rattle.std.proofs.Common.{arith, ◌≡◌, ◌-◌, ◌+◌, refl}
 use Rattle.verdict_tables.proofs.SearchLemmas.{between-all, between-later, between-earlier, between-found}
 use Rattle.verdict_tables.proofs.ranges.Ranges.number_at.Goals as goal
 

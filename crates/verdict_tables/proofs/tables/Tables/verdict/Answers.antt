@@ -1,4 +1,4 @@
-use Rattle.std.proofs.Common.{arith, ◌≡◌, ◌∙◌, ◌≤◌, Bor, Option, Some, sym, ap}
+use Rattle.std.proofs.Common.{arith, ◌∙◌, Bor, Option, sym, ap}
 use Rattle.std.specs.Option.{option_copied}
 use Rattle.verdict_tables.specs.Tables.{RangeParts}
 use Rattle.verdict_tables.proofs.CountLemmas.{ranges-few}

@@ -7,9 +7,9 @@ ghost use Rattle.decommutator.specs.Output.{Proceeds, seen_as};
 ghost use Rattle.decommutator.specs.Blocks.{parameter_block};
 
 use crate::output::write_piece;
-use crate::verdicts::report_verdict;
+use crate::verdicts::Verdicts;
 use block_lines::{write_current, write_report, write_statistics};
-use ground_history::{History, KeptPacket};
+use ground_history::KeptPacket;
 use hk_base::{Key, Memory, Sink};
 use pus_messages::ReportBody;
 use session_record::WriteFault;
@@ -20,38 +20,36 @@ use std::alloc::Global;
 /// Writes the blocks of the kept reports in the order of tags. A last part of them stays gathered.
 pub(crate) fn write_blocks<K: Sink>(
     alloc: Global,
-    history: &History,
+    verdicts: &Verdicts<'_>,
     sink: &mut K,
     out: &mut Vec<u8>,
 ) -> Result<(), WriteFault>
-    ensures { Proceeds (out.old.items ++ flat_map (block history.now.tailoring history.now.history) history.now.history.kept) (seen_as (K.taken sink.old) (K.faults sink.old) (K.room sink.old)) result out.new.items (seen_as (K.taken sink.new) (K.faults sink.new) (K.room sink.new)) }
+    ensures { Proceeds (out.old.items ++ flat_map (block verdicts.now.tailoring verdicts.now.history) verdicts.now.history.kept) (seen_as (K.taken sink.old) (K.faults sink.old) (K.room sink.old)) result out.new.items (seen_as (K.taken sink.new) (K.faults sink.new) (K.room sink.new)) }
 {
-    // What it says of all that is known holds of each kept report: its payload is short.
-    let _tailoring = history.tailoring();
-    for kept in history.packets() {
-        put_block(alloc, history, kept, out)?;
+    for kept in verdicts.history().packets() {
+        put_block(alloc, verdicts, kept, out)?;
         write_piece(sink, out)?;
     }
     Ok(())
 }
 
 /// Appends the block of a kept report.
-fn put_block(
+pub(crate) fn put_block(
     alloc: Global,
-    history: &History,
+    verdicts: &Verdicts<'_>,
     kept: &KeptPacket,
     out: &mut Vec<u8>,
 ) -> Result<(), Memory>
     requires { HasRoom kept.now.report.body }
-    ensures { Appends out.old.items result out.new.items (block history.now.tailoring history.now.history kept.now) }
+    ensures { Appends out.old.items result out.new.items (block verdicts.now.tailoring verdicts.now.history kept.now) }
 {
     let tag = kept.tag();
     match &kept.report().body {
         ReportBody::Hk(Report03::Values(key, payload)) => {
-            put_report(alloc, history, *key, tag, payload.as_slice(), out)
+            put_report(alloc, verdicts, *key, tag, payload.as_slice(), out)
         }
         ReportBody::Stat(Report04::Statistics(report)) => {
-            write_statistics(out, history.tailoring(), tag, report)
+            write_statistics(out, verdicts.history().tailoring(), tag, report)
         }
         ReportBody::Par(report) => write_current(out, tag, report.pairs.as_slice()),
         _ => Ok(()),
@@ -61,15 +59,16 @@ fn put_block(
 /// Appends the block of a parameter report.
 fn put_report(
     alloc: Global,
-    history: &History,
+    verdicts: &Verdicts<'_>,
     key: Key,
     tag: u64,
     payload: &[u8],
     out: &mut Vec<u8>,
 ) -> Result<(), Memory>
     requires { length payload.now ≤ 2147483648 }
-    ensures { Appends out.old.items result out.new.items (parameter_block history.now.tailoring history.now.history key tag payload.now) }
+    ensures { Appends out.old.items result out.new.items (parameter_block verdicts.now.tailoring verdicts.now.history key tag payload.now) }
 {
-    let verdict = report_verdict(alloc, history, key, tag, payload)?;
-    write_report(alloc, out, history.tailoring(), key, tag, &verdict, payload)
+    let verdict = verdicts.on_report(alloc, key, tag, payload)?;
+    let tailoring = verdicts.history().tailoring();
+    write_report(alloc, out, tailoring, key, tag, &verdict, payload)
 }

@@ -11,7 +11,7 @@ ghost use Rattle.decommutator.specs.Rows as rows;
 ghost use Rattle.decommutator.specs.Rows.{body_rows, row_of, rows_by};
 
 use crate::row::ValueRow;
-use crate::verdicts::report_verdict;
+use crate::verdicts::Verdicts;
 use definition_intervals::Verdict;
 use ground_history::{History, KeptPacket};
 use hk_base::{Definition, Items, Memory, PayloadFault, Place, Tailoring, Value, slot_of};
@@ -50,13 +50,12 @@ pub(crate) fn rows_of(
     requires { number < rows.report_count history.now }
     ensures { IfOk result (λ found. found ≡ rows.report_rows history.now number) }
 {
-    // What it says of all that is known holds of each kept report: its payload is short.
-    let _tailoring = history.tailoring();
+    let verdicts = Verdicts::on_few(history);
     let mut left = number;
-    for kept in history.packets() {
+    for kept in verdicts.history().packets() {
         if is_parameter_report(kept) {
             if left == 0 {
-                return kept_rows(alloc, history, kept);
+                return kept_rows(alloc, &verdicts, kept);
             }
             left -= 1;
         }
@@ -65,17 +64,22 @@ pub(crate) fn rows_of(
 }
 
 /// The rows of a kept packet: none where it is no parameter report, or isn't decided.
-fn kept_rows(alloc: Global, history: &History, kept: &KeptPacket) -> Result<Items<ValueRow>, Memory>
+fn kept_rows(
+    alloc: Global,
+    verdicts: &Verdicts<'_>,
+    kept: &KeptPacket,
+) -> Result<Items<ValueRow>, Memory>
     requires { HasRoom kept.now.report.body }
-    ensures { IfOk result (λ found. found ≡ body_rows history.now.tailoring history.now.history (tag_of kept.now) kept.now.report.body) }
+    ensures { IfOk result (λ found. found ≡ body_rows verdicts.now.tailoring verdicts.now.history (tag_of kept.now) kept.now.report.body) }
 {
     match &kept.report().body {
         ReportBody::Hk(Report03::Values(key, payload)) => {
             let tag = kept.tag();
             let payload = payload.as_slice();
-            match report_verdict(alloc, history, *key, tag, payload)? {
+            match verdicts.on_report(alloc, *key, tag, payload)? {
                 Verdict::Decided(def) => {
-                    decided_rows(alloc, history.tailoring(), &def, tag, payload)
+                    let tailoring = verdicts.history().tailoring();
+                    decided_rows(alloc, tailoring, &def, tag, payload)
                 }
                 _ => Ok(Items::from_vec(Vec::new(alloc))),
             }

@@ -6,7 +6,7 @@ ghost use Rattle.session_texts.specs.Tallies.{body_verdict};
 ghost use Rattle.decommutator.specs.Standing.{tally_by, with_verdicts};
 ghost use Rattle.decommutator.specs.Tallying.{IsFormedVerdict, with_tag};
 
-use crate::verdicts::report_verdict;
+use crate::verdicts::Verdicts;
 use block_lines::Counts;
 use definition_intervals::Verdict;
 use ground_history::{History, KeptPacket};
@@ -22,6 +22,16 @@ pub(crate) fn tally_of(alloc: Global, history: &History, counts: &Counts) -> Res
     requires { length history.now.history.requests + length history.now.history.kept < 4294967296 }
     ensures { IfOk result (λ tally. tally ≡ tally_by history.now counts.now) }
 {
+    let verdicts = Verdicts::on_many(alloc, history)?;
+    tally_verdicts(alloc, &verdicts, counts)
+}
+
+/// The numbers of what is known, and of the verdicts on the kept parameter reports.
+fn tally_verdicts(alloc: Global, verdicts: &Verdicts<'_>, counts: &Counts) -> Result<Tally, Memory>
+    requires { length verdicts.now.history.requests + length verdicts.now.history.kept < 4294967296 }
+    ensures { IfOk result (λ tally. tally ≡ tally_by verdicts.now counts.now) }
+{
+    let history = verdicts.history();
     let tailoring = history.tailoring();
     let mut tally = Tally {
         sent: history.count() as u32,
@@ -33,7 +43,7 @@ pub(crate) fn tally_of(alloc: Global, history: &History, counts: &Counts) -> Res
         values: 0,
     };
     for kept in history.packets() {
-        if let Some(verdict) = kept_verdict(alloc, history, kept)? {
+        if let Some(verdict) = kept_verdict(alloc, verdicts, kept)? {
             count_verdict(&mut tally, tailoring, kept.tag(), &verdict);
         }
     }
@@ -43,18 +53,18 @@ pub(crate) fn tally_of(alloc: Global, history: &History, counts: &Counts) -> Res
 /// The verdict on a kept packet, where it is a parameter report.
 fn kept_verdict(
     alloc: Global,
-    history: &History,
+    verdicts: &Verdicts<'_>,
     kept: &KeptPacket,
 ) -> Result<Option<Verdict>, Memory>
     requires { HasRoom kept.now.report.body }
-    ensures verdict { IfOk result (λ found. option_map (with_tag (tag_of kept.now)) found ≡ body_verdict history.now.tailoring history.now.history (tag_of kept.now) kept.now.report.body) }
-    ensures formed { IfOk result (λ found. IfSome found (IsFormedVerdict history.now.tailoring)) }
+    ensures verdict { IfOk result (λ found. option_map (with_tag (tag_of kept.now)) found ≡ body_verdict verdicts.now.tailoring verdicts.now.history (tag_of kept.now) kept.now.report.body) }
+    ensures formed { IfOk result (λ found. IfSome found (IsFormedVerdict verdicts.now.tailoring)) }
 {
     match &kept.report().body {
         ReportBody::Hk(Report03::Values(key, payload)) => {
             let tag = kept.tag();
             let payload = payload.as_slice();
-            let verdict = report_verdict(alloc, history, *key, tag, payload)?;
+            let verdict = verdicts.on_report(alloc, *key, tag, payload)?;
             Ok(Some(verdict))
         }
         _ => Ok(None),

@@ -5,13 +5,14 @@ ghost use Rattle.decommutator.specs.Standing.{text_by};
 
 use crate::blocks::write_blocks;
 use crate::output::write_gathered;
+use crate::verdicts::Verdicts;
 use block_lines::{Counts, write_counts};
 use ground_history::History;
 use hk_base::Sink;
 use session_record::WriteFault;
 use std::alloc::Global;
 
-/// Writes the blocks of the kept reports in the order of tags, and then the counts.
+/// Writes the whole text of what is known and these counts.
 pub(crate) fn write_text<K: Sink>(
     alloc: Global,
     history: &History,
@@ -20,8 +21,21 @@ pub(crate) fn write_text<K: Sink>(
 ) -> Result<(), WriteFault>
     ensures { HasEnded (text_by history.now counts.now) result (seen_as (K.taken sink.old) (K.faults sink.old) (K.room sink.old)) (seen_as (K.taken sink.new) (K.faults sink.new) (K.room sink.new)) }
 {
+    let verdicts = Verdicts::on_many(alloc, history)?;
+    write_lines(alloc, &verdicts, counts, sink)
+}
+
+/// Writes the blocks of the kept reports in the order of tags, and then the counts.
+fn write_lines<K: Sink>(
+    alloc: Global,
+    verdicts: &Verdicts<'_>,
+    counts: &Counts,
+    sink: &mut K,
+) -> Result<(), WriteFault>
+    ensures { HasEnded (text_by verdicts.now counts.now) result (seen_as (K.taken sink.old) (K.faults sink.old) (K.room sink.old)) (seen_as (K.taken sink.new) (K.faults sink.new) (K.room sink.new)) }
+{
     let mut out = Vec::new(alloc);
-    write_blocks(alloc, history, sink, &mut out)?;
+    write_blocks(alloc, verdicts, sink, &mut out)?;
     write_counts(&mut out, counts)?;
     write_gathered(sink, &mut out)
 }

@@ -10,8 +10,8 @@ use Rattle.decommutator.proofs.blocks.write_blocks.Goals as goal
 
 pub returns-in_err-put_block : goal.returns-in_err-put_block
 returns-in_err-put_block g c =
-    let f = block c.args.history.now.tailoring c.args.history.now.history in
-    let start = c.args.out.now.items ++ flat_map f c.args.history.now.history.kept in
+    let f = block c.args.verdicts.now.tailoring c.args.verdicts.now.history in
+    let start = c.args.out.now.items ++ flat_map f c.args.verdicts.now.history.kept in
     let from = seen_as (g.K.Sink.taken c.args.sink.now) (g.K.Sink.faults c.args.sink.now) (g.K.Sink.room c.args.sink.now) in
     let now = seen_as (g.K.Sink.taken c.loop-kept.sink) (g.K.Sink.faults c.loop-kept.sink) (g.K.Sink.room c.loop-kept.sink) in
     let p = err_from_is_err_and c.from_residual.result c.from_residual.ensures.1 in
@@ -21,8 +21,8 @@ returns-in_err-put_block g c =
 
 pub returns-in_err-write_piece : goal.returns-in_err-write_piece
 returns-in_err-write_piece g c =
-    let f = block c.args.history.now.tailoring c.args.history.now.history in
-    let start = c.args.out.now.items ++ flat_map f c.args.history.now.history.kept in
+    let f = block c.args.verdicts.now.tailoring c.args.verdicts.now.history in
+    let start = c.args.out.now.items ++ flat_map f c.args.verdicts.now.history.kept in
     let from = seen_as (g.K.Sink.taken c.args.sink.now) (g.K.Sink.faults c.args.sink.now) (g.K.Sink.room c.args.sink.now) in
     let mid = seen_as (g.K.Sink.taken c.loop-kept.sink) (g.K.Sink.faults c.loop-kept.sink) (g.K.Sink.room c.loop-kept.sink) in
     let now = seen_as (g.K.Sink.taken c.write_piece.new.sink) (g.K.Sink.faults c.write_piece.new.sink) (g.K.Sink.room c.write_piece.new.sink) in

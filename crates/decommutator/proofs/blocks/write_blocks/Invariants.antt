@@ -9,10 +9,10 @@ use Rattle.decommutator.proofs.blocks.write_blocks.Given as goal
 abbrev pub invariant-loop-kept : goal.invariant-loop-kept
 invariant-loop-kept g l = record {
   ahead : Proceeds
-      (l.fn.out.items ++ flat_map (block l.history.tailoring l.history.history) l.history.history.kept)
+      (l.fn.out.items ++ flat_map (block l.verdicts.tailoring l.verdicts.history) l.verdicts.history.kept)
       (seen_as (g.K.Sink.taken l.fn.sink) (g.K.Sink.faults l.fn.sink) (g.K.Sink.room l.fn.sink))
       (Ok tt)
-      (l.out.items ++ flat_map (block l.history.tailoring l.history.history) l.kept-iterator)
+      (l.out.items ++ flat_map (block l.verdicts.tailoring l.verdicts.history) l.kept-iterator)
       (seen_as (g.K.Sink.taken l.sink) (g.K.Sink.faults l.sink) (g.K.Sink.room l.sink));
   short : AllByRecursion (λ (k : Kept). HasRoom k.report.body) l.kept-iterator;
 }

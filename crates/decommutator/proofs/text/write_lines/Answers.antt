@@ -7,11 +7,11 @@ use Rattle.block_lines.specs.Counts.{lines_of}
 use Rattle.decommutator.specs.Output.{Seen, seen_as, Proceeds, HasEnded}
 use Rattle.decommutator.specs.Standing.{text_by}
 use Rattle.decommutator.proofs.OutputLemmas.{blocks-failed, lines-failed, text-ended}
-use Rattle.decommutator.proofs.text.write_text.Goals as goal
+use Rattle.decommutator.proofs.text.write_lines.Goals as goal
 
 pub returns-in_err-write_blocks : goal.returns-in_err-write_blocks
 returns-in_err-write_blocks g c =
-    let blocks = flat_map (block c.args.history.now.tailoring c.args.history.now.history) c.args.history.now.history.kept in
+    let blocks = flat_map (block c.args.verdicts.now.tailoring c.args.verdicts.now.history) c.args.verdicts.now.history.kept in
     let lines = lines_of c.args.counts.now in
     let from = seen_as (g.K.Sink.taken c.args.sink.now) (g.K.Sink.faults c.args.sink.now) (g.K.Sink.room c.args.sink.now) in
     let now = seen_as (g.K.Sink.taken c.write_blocks.new.sink) (g.K.Sink.faults c.write_blocks.new.sink) (g.K.Sink.room c.write_blocks.new.sink) in
@@ -25,7 +25,7 @@ returns-in_err-write_blocks g c =
 
 pub returns-in_err-write_counts : goal.returns-in_err-write_counts
 returns-in_err-write_counts g c =
-    let blocks = flat_map (block c.args.history.now.tailoring c.args.history.now.history) c.args.history.now.history.kept in
+    let blocks = flat_map (block c.args.verdicts.now.tailoring c.args.verdicts.now.history) c.args.verdicts.now.history.kept in
     let lines = lines_of c.args.counts.now in
     let from = seen_as (g.K.Sink.taken c.args.sink.now) (g.K.Sink.faults c.args.sink.now) (g.K.Sink.room c.args.sink.now) in
     let mid = seen_as (g.K.Sink.taken c.write_blocks.new.sink) (g.K.Sink.faults c.write_blocks.new.sink) (g.K.Sink.room c.write_blocks.new.sink) in
@@ -38,7 +38,7 @@ returns-in_err-write_counts g c =
 
 pub returns : goal.returns
 returns g c =
-    let blocks = flat_map (block c.args.history.now.tailoring c.args.history.now.history) c.args.history.now.history.kept in
+    let blocks = flat_map (block c.args.verdicts.now.tailoring c.args.verdicts.now.history) c.args.verdicts.now.history.kept in
     let lines = lines_of c.args.counts.now in
     let from = seen_as (g.K.Sink.taken c.args.sink.now) (g.K.Sink.faults c.args.sink.now) (g.K.Sink.room c.args.sink.now) in
     let mid = seen_as (g.K.Sink.taken c.write_blocks.new.sink) (g.K.Sink.faults c.write_blocks.new.sink) (g.K.Sink.room c.write_blocks.new.sink) in

@@ -1,0 +1,1 @@
+use Rattle.decommutator.proofs.verdicts.Verdicts.on_report.Goals as goal

@@ -106,8 +106,8 @@ of_first stands P t s q None rest first known long new answer k l holds = tt
 of_first stands P t s q (Some octets) None first known long new answer k l holds = absurd (none_told answer.1)
 of_first stands P t s q (Some octets) (Some a) first known long new answer k l holds =
     subst P (first_is s first (read_record octets) (to_come q a) answer.0
-        ∙ (ap (λ (x : Standing). rest_outcome x (read_record octets)) new
-        ∙ start_outcome stands t octets q a first (to_come q a) q.header known long refl refl answer.0 (sym k) (sym l))) holds
+    ∙ (ap (λ (x : Standing). rest_outcome x (read_record octets)) new
+    ∙ start_outcome stands t octets q a first (to_come q a) q.header known long refl refl answer.0 (sym k) (sym l))) holds
 
 start_fault : Stands → (t : TailoringParts) (octets : List ℕ) (fault : RecordFault) (now : Result (Header × Entries) RecordFault) → IsFirst (Err fault) (read_record octets) now
     → EndsWith (status_of_fault fault) (replay_outcome t octets)
@@ -121,6 +121,7 @@ start_fault stands t octets fault now answer = by_reading (read_record octets) r
     without_header f (TooManyEntries o) is first = absurd first.1
     without_header f ReadFault is first = tt
     without_header f Memory is first = tt
+
     by_reading : (r : Result (Header × Entries) RecordFault) → read_record octets ≡ r → IsFirst (Err fault) r now → EndsWith (status_of_fault fault) (replay_outcome t octets)
     by_reading (Ok x) is first =
         subst (λ (o : Outcome). EndsWith (status_of_fault fault) o) (sym (whole_record stands t octets x is)) (first_fault (new_standing t x.0.known x.0.long) fault (Ok x) now first)

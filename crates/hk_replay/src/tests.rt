@@ -16,21 +16,26 @@ const KNOWN: &[u8] = b"HKREC1K\n";
 const UNKNOWN: &[u8] = b"HKREC1U\n";
 
 /// A report of housekeeping structure 1, with the tag 16385.
-const REPORT: &[u8] = b"G\x00\x00\x00\x16\x08d\xc0\x00\x00\x0f\x20\x03\x19\x00\x00\x00\x01\x00\x00\x00\x00\x40\x01\x01\x00\x2a";
+const REPORT: &[u8] =
+    b"G\x00\x00\x00\x16\x08d\xc0\x00\x00\x0f\x20\x03\x19\x00\x00\x00\x01\x00\x00\x00\x00\x40\x01\x01\x00\x2a";
 
 const REPORT_TEXT: &str = "report hk 1 tag 16385 decided interval 4\nvalue 1 slot 3 = 42\n";
 
 /// A later report of it, with the tag 32769.
-const LATER: &[u8] = b"G\x00\x00\x00\x16\x08d\xc0\x00\x00\x0f\x20\x03\x19\x00\x00\x00\x01\x00\x00\x00\x00\x80\x01\x01\x00\x07";
+const LATER: &[u8] =
+    b"G\x00\x00\x00\x16\x08d\xc0\x00\x00\x0f\x20\x03\x19\x00\x00\x00\x01\x00\x00\x00\x00\x80\x01\x01\x00\x07";
 
 /// A report on what the structure is, with the tag 20481.
-const STRUCTURE: &[u8] = b"G\x00\x00\x00\x1b\x08d\xc0\x00\x00\x14\x20\x03\x0a\x00\x00\x00\x01\x00\x00\x00\x00P\x01\x01\x01\x00\x04\x01\x00\x01\x00";
+const STRUCTURE: &[u8] =
+    b"G\x00\x00\x00\x1b\x08d\xc0\x00\x00\x14\x20\x03\x0a\x00\x00\x00\x01\x00\x00\x00\x00P\x01\x01\x01\x00\x04\x01\x00\x01\x00";
 
 /// A report of housekeeping structure 3, with the tag 32771.
-const THIRD: &[u8] = b"G\x00\x00\x00\x18\x08d\xc0\x00\x00\x11\x20\x03\x19\x00\x00\x00\x01\x00\x00\x00\x00\x80\x03\x03\x00\x00\x00\x09";
+const THIRD: &[u8] =
+    b"G\x00\x00\x00\x18\x08d\xc0\x00\x00\x11\x20\x03\x19\x00\x00\x00\x01\x00\x00\x00\x00\x80\x03\x03\x00\x00\x00\x09";
 
 /// A report on the statistics of parameter 2, with the tag 8200.
-const STATISTICS: &[u8] = b"G\x00\x00\x005\x08d\xc0\x00\x00\x2e\x20\x04\x02\x00\x00\x00\x01\x00\x00\x00\x00\x20\x08\
+const STATISTICS: &[u8] =
+    b"G\x00\x00\x005\x08d\xc0\x00\x00\x2e\x20\x04\x02\x00\x00\x00\x01\x00\x00\x00\x00\x20\x08\
     \x00\x00\x00\x00\x00\x00\x00\x00\x00\x00\x20\x08\x01\x00\x02\x00\x00\x00\x02\xfd\
     \x00\x00\x00\x00\x00\x00\xfc\x00\x00\x00\x00\x10\x00\xfc";
 
@@ -49,12 +54,7 @@ fn words_of(alloc: Global, words: &[&str]) -> Result<Vec<String>, AllocError> {
 }
 
 /// A shelf with the record of these parts. Its reads give at most so many octets, and its listed calls fail.
-fn shelf_of(
-    alloc: Global,
-    parts: &[&[u8]],
-    failing: &[u32],
-    most: u32,
-) -> Result<MemShelf, Memory>
+fn shelf_of(alloc: Global, parts: &[&[u8]], failing: &[u32], most: u32) -> Result<MemShelf, Memory>
     requires { 1 ≤ most }
 {
     let mut octets = Vec::new(alloc);
@@ -143,10 +143,7 @@ fn appending(alloc: Global, count: u8) -> Result<Vec<u8>, AllocError> {
 fn structures_that_may_be_many(rt: HostRuntime) -> Result<(), Fail> {
     let alloc = rt.alloc();
     let decided = "report hk 3 tag 32771 decided interval 2\nvalue 6 slot 7 = 9\n";
-    let table = [
-        (6, decided),
-        (7, "report hk 3 tag 32771 crowded 0\n"),
-    ];
+    let table = [(6, decided), (7, "report hk 3 tag 32771 crowded 0\n")];
     for (count, text) in table {
         let requests = appending(alloc, count)?;
         let parts: &[&[u8]] = &[KNOWN, requests.as_slice(), THIRD];
@@ -188,7 +185,12 @@ fn other_forms(rt: HostRuntime) -> Result<(), Fail> {
     let table: [(&[&str], &[&[u8]], (u8, &str), &[u8]); 8] = [
         (&[], &[], (2, "usage"), b""),
         (&["replay", "builtin"], &[], (2, "usage"), b""),
-        (REPLAY, &[KNOWN, &REPORT[..26]], (4, "record: cut at 8"), b""),
+        (
+            REPLAY,
+            &[KNOWN, &REPORT[..26]],
+            (4, "record: cut at 8"),
+            b"",
+        ),
         (&["trim", "record"], &[KNOWN, &REPORT[..26]], DONE, KNOWN),
         (
             &["check", "builtin"],
@@ -225,7 +227,10 @@ fn other_forms(rt: HostRuntime) -> Result<(), Fail> {
 fn statuses_and_their_texts(rt: HostRuntime) -> Result<(), Fail> {
     let faults = [
         (SentFault::BadRequest, "record: bad request at 8"),
-        (SentFault::WrongCount(0, 1), "record: wrong count 1 for 0 at 8"),
+        (
+            SentFault::WrongCount(0, 1),
+            "record: wrong count 1 for 0 at 8",
+        ),
         (SentFault::Reused(3), "record: reused count 3 at 8"),
         (SentFault::SessionFull, "record: session full at 8"),
         (SentFault::WindowFull(1), "record: window full at 8"),
@@ -233,7 +238,10 @@ fn statuses_and_their_texts(rt: HostRuntime) -> Result<(), Fail> {
     for (fault, text) in faults {
         let status = ReplayStatus::of_entry(fault, 8);
         let (number, found) = status_text(rt.alloc(), &status)?;
-        assert!(rt; number == 4 && found.as_slice() == text.as_bytes(), "not {text}");
+        assert!(rt;
+            number == 4 && found.as_slice() == text.as_bytes(),
+            "not {text}"
+        );
     }
     let others = [
         (ReplayStatus::ReadFault, 5, "read fault"),
@@ -243,7 +251,10 @@ fn statuses_and_their_texts(rt: HostRuntime) -> Result<(), Fail> {
     ];
     for (status, number, text) in others {
         let (is, found) = status_text(rt.alloc(), &status)?;
-        assert!(rt; is == number && found.as_slice() == text.as_bytes(), "not {text}");
+        assert!(rt;
+            is == number && found.as_slice() == text.as_bytes(),
+            "not {text}"
+        );
     }
     Ok(())
 }

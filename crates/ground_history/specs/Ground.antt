@@ -8,7 +8,7 @@ use Rattle.pus_packet.specs.declared.header.TcHeader.{TcHeader}
 use Rattle.pus_messages.specs.Messages.{protocol}
 use Rattle.pus_messages.specs.Instructions.{instructions}
 use Rattle.pus_messages.specs.Spelling.{IsRequest, IsReport}
-use Rattle.ground_history.specs.Histories.{Sent, Kept, History, is_own, is_known_begun, sent_short, sent_long, tag_of, history_with_got, history_with_report, number_of_body, stray_id}
+use Rattle.ground_history.specs.Histories.{Sent, Kept, History, is_own, is_known_begun, sent_short, sent_long, tag_of, newest_tag, history_with_got, history_with_report, number_of_body, stray_id}
 use Rattle.hk_base.specs.declared.types.Memory.{Memory}
 use Rattle.pus_messages.specs.declared.message.Report.{Report}
 use Rattle.ground_history.specs.declared.answer.GotKind.{GotKind}
@@ -31,10 +31,23 @@ IsGrammarSent t s = IfSome s.request (λ r. IsRequest t r × (length (instructio
 abbrev pub IsGrammarKept : TailoringParts → Kept → Type 0
 IsGrammarKept t k = IsReport t k.report
 
--- what is known is of requests and reports of the grammar
+-- no request has a floor above that of a later one
+abbrev pub HaveRisingFloors : List Sent → Type 0
+HaveRisingFloors [] = Unit {0}
+HaveRisingFloors (request ∷ requests) = AllByRecursion (λ later. request.floor ≤ later.floor) requests × HaveRisingFloors requests
+
+-- each packet's tag is below those of the packets behind it
+abbrev pub HaveRisingTags : List Kept → Type 0
+HaveRisingTags [] = Unit {0}
+HaveRisingTags (k ∷ ks) = AllByRecursion (λ later. tag_of k < tag_of later) ks × HaveRisingTags ks
+
+-- what is known is of requests and reports of the grammar, in the order of floors and of tags, and no floor is above the tags that were kept
 pub record IsGrounded (g : Ground) : Type 0 where
   pub requests : AllByRecursion (IsGrammarSent g.tailoring) g.history.requests
   pub reports : AllByRecursion (IsGrammarKept g.tailoring) g.history.kept
+  pub floors : HaveRisingFloors g.history.requests
+  pub reached : AllByRecursion (λ request. request.floor ≤ newest_tag g.history) g.history.requests
+  pub tags : HaveRisingTags g.history.kept
 
 -- what is known is the first, and the tailoring that of the second
 abbrev pub with_history : Ground → History → Ground

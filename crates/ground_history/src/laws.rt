@@ -4,6 +4,7 @@ ghost use Rattle.pus_messages.specs.Protocol.{Protocol};
 ghost use Rattle.ground_history.specs.Histories.{History, sent_answer, history_with};
 ghost use Rattle.ground_history.specs.Attribution.{AttributionHolds};
 ghost use Rattle.ground_history.specs.Bounds.{BoundsHold};
+ghost use Rattle.ground_history.specs.Rising.{BoundsRise};
 ghost use Rattle.ground_history.specs.declared.answer.SentFault.{SentFault};
 ghost use Rattle.hk_world.specs.Worlds.{sent};
 
@@ -20,4 +21,9 @@ pub fn bounds()
 /// In a world each request that is sent is taken, and each packet of the board's is kept once, as evidence on the request whose moment sent it.
 pub fn attribution()
     ensures { AttributionHolds }
+{}
+
+/// The bounds of a request are no higher than those of the requests after it.
+pub fn bounds_rise()
+    ensures { BoundsRise }
 {}

@@ -57,8 +57,9 @@ invariant_of-self-2 c =
     let is = same_Some _ _ (c.in-Some.ensures ∙ found) in
     let says = c.note_kept.ensures c.self.inside.kept (c.make_room_for.ensures.same c.self.inside.kept c.self.invariant.0) in
     let report = subst (λ (g : Ground). IsReport g.tailoring c.args.report) (sym c.self.view_is) c.requires.grammar in
-    let grammar = subst (λ (x : Kept). IsReport c.self.inside.tailoring x.report) (sym c.new.ensures) report in (
+    let grammar = subst (λ (x : Kept). IsReport c.self.inside.tailoring x.report) (sym c.new.ensures) report in
+    let unkept = subst (λ (x : Kept). find (λ k. tag_of k == tag_of x) c.self.inside.kept ≡ None) (sym c.new.ensures) absent in (
       subst (λ (ks : List Kept). Says c.note_kept.new.self ks) (sym (c.in_ok-keep.ensures.kept ∙ ap (λ (x : Kept). insert_kept x c.self.inside.kept) (sym is))) says,
       subst (λ (ks : List Kept). IsGrounded (with_kept_packets (the_view c.self.inside) ks)) (sym c.in_ok-keep.ensures.kept)
-          (grounded-kept (the_view c.self.inside) c.new.result c.self.invariant.1 grammar),
+          (grounded-kept (the_view c.self.inside) c.new.result c.self.invariant.1 unkept grammar),
     )

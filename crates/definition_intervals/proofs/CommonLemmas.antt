@@ -36,7 +36,7 @@ filter-members : (test : Option Structure → Bool) (q : Option Structure) (ss :
 filter-members test q ss = is_member-filter state_eq_laws test q (λ x e. ap test ((state_eq-Decides q x).0 e)) ss
 
 -- a common state is one that is possible from each opening
-common-members : (t : TailoringParts) (q : Option Structure) (o : Opening) (os : List Opening) → list_any (state_eq q) (common_states t (o ∷ os)) ≡ list_all (is_possible_from t q) (o ∷ os)
+pub common-members : (t : TailoringParts) (q : Option Structure) (o : Opening) (os : List Opening) → list_any (state_eq q) (common_states t (o ∷ os)) ≡ list_all (is_possible_from t q) (o ∷ os)
 common-members t q o os = filter-members (λ state. list_all (is_possible_from t state) os) q (states_from t o)
 
 and_true : (b : Bool) → (b && true) ≡ b

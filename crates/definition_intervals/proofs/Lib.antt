@@ -28,3 +28,5 @@ pub mod KnownWorlds
 pub mod WorldGrowth
 pub mod WorldDecisions
 pub mod ValueLemmas
+pub mod FoundLemmas
+pub mod FoundSteps

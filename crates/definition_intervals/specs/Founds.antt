@@ -5,9 +5,14 @@ use Rattle.std.specs.Option.{option_or}
 use Rattle.hk_base.specs.TailoringParts.{TailoringParts}
 use Rattle.hk_base.specs.declared.types.Key.{Key}
 use Rattle.hk_base.specs.declared.types.Structure.{Structure}
-use Rattle.report_structures.specs.Changes.{IsFormedState}
+use Rattle.st03_grammar.specs.Instructions.{StructureChange}
+use Rattle.pus_messages.specs.Changes.{change_by}
+use Rattle.pus_messages.specs.Spelling.{IsRequest, IsReport}
+use Rattle.pus_messages.specs.declared.message.Request.{Request}
+use Rattle.pus_messages.specs.declared.message.Report.{Report}
+use Rattle.report_structures.specs.Changes.{IsGrammarChange, IsFormedState}
 use Rattle.ground_history.specs.Histories.{History}
-use Rattle.definition_intervals.specs.Openings.{Candidate, Opening, candidates, opening, surely_creates, is_open, first_open}
+use Rattle.definition_intervals.specs.Openings.{Candidate, Opening, candidates, opening, surely_creates, reported_structure, is_open, first_open}
 use Rattle.definition_intervals.specs.States.{state_eq, next_states, distinct_states, states_from, is_crowded}
 use Rattle.definition_intervals.specs.Verdicts.{named_request}
 use Rattle.definition_intervals.specs.Bases.{IsBasis}
@@ -103,3 +108,13 @@ abbrev pub FindsGiveBases : Type 0
 FindsGiveBases =
     (t : TailoringParts) (os : List Opening) (founds : List (Option (List (Option Structure)))) (basis : Basis)
     → AreFoundOf t os founds → IsBasisOf founds (named_request os) basis → IsBasis t os basis
+
+-- The change that a request of the grammar makes of a structure is one of the grammar.
+abbrev pub ChangesAreFormed : Type 0
+ChangesAreFormed =
+    (t : TailoringParts) (key : Key) (r : Request) (number : ℕ) (change : StructureChange)
+    → IsRequest t r → change_by key r ≡ Some (number, change) → IsGrammarChange t change
+
+-- The state that a report of the grammar tells is valid, the size of its payload aside.
+abbrev pub ReportedStatesAreFormed : Type 0
+ReportedStatesAreFormed = (t : TailoringParts) (key : Key) (r : Report) → IsReport t r → IsFormedState t (reported_structure key r.body)

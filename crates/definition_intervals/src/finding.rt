@@ -3,7 +3,7 @@ ghost use Rattle.std.specs.Prelude.{◌≡◌, ◌∷◌, [], IfOk, None, Some, 
 ghost use Rattle.report_structures.specs.Changes.{IsFormedState};
 ghost use Rattle.definition_intervals.specs.Findings.{IsFormedCandidate};
 ghost use Rattle.definition_intervals.specs.Founds as founds;
-ghost use Rattle.definition_intervals.specs.Founds.{AreSameFound, IsFormedFound, OpeningsAreFound, SameIsFound, FindsGiveBases};
+ghost use Rattle.definition_intervals.specs.Founds.{AreSameFound, IsFormedFound, OpeningsAreFound, SameIsFound, FindsGiveBases, ChangesAreFormed, ReportedStatesAreFormed};
 
 use crate::gathering::surely_creates;
 use crate::opening::Candidate;
@@ -79,4 +79,14 @@ pub fn same_is_found()
 /// What the finds of openings leave is the basis of verdicts.
 pub fn finds_give_bases()
     ensures { FindsGiveBases }
+{}
+
+/// The change that a request of the grammar makes of a structure is one of the grammar.
+pub fn changes_are_formed()
+    ensures { ChangesAreFormed }
+{}
+
+/// The state that a report of the grammar tells is valid, the size of its payload aside.
+pub fn reported_states_are_formed()
+    ensures { ReportedStatesAreFormed }
 {}

@@ -1,15 +1,12 @@
 -- What openings leave gives the verdict from them.
-use Rattle.std.proofs.Common.{arith, ◌≡◌, ℕ, ◌≤◌, refl, sym, ◌∙◌, ap, subst, List, [], ◌∷◌, Option, Some, length}
+use Rattle.std.proofs.Common.{arith, ◌≤◌, sym, ◌∙◌, ap, List, [], ◌∷◌, length}
 use Rattle.std.specs.Prelude.{filter_map}
 use Rattle.hk_base.specs.TailoringParts.{TailoringParts}
-use Rattle.hk_base.specs.declared.types.Structure.{Structure}
 use Rattle.definition_intervals.specs.Openings.{Opening}
-use Rattle.definition_intervals.specs.Verdicts.{named_request, explanation, verdict_by, verdict_of}
-use Rattle.definition_intervals.specs.Findings.{AreCommon, uncrowded_openings}
-use Rattle.definition_intervals.specs.Bases.{IsBasis, verdict_on, BasesDecide}
-use Rattle.definition_intervals.specs.declared.answer.Basis.{Basis}
+use Rattle.definition_intervals.specs.Verdicts.{explanation, verdict_by, verdict_of}
+use Rattle.definition_intervals.specs.Findings.{uncrowded_openings}
+use Rattle.definition_intervals.specs.Bases.{BasesDecide}
 use Rattle.definition_intervals.specs.declared.answer.Basis.TheVariants.{NoOpening, Crowded, Open}
-use Rattle.definition_intervals.specs.declared.answer.Verdict.{Verdict}
 use Rattle.definition_intervals.specs.declared.answer.Verdict.TheVariants as v
 use Rattle.definition_intervals.proofs.AgreementLemmas.{verdict-common, verdict-crowded}
 

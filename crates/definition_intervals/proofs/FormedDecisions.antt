@@ -1,7 +1,7 @@
 -- A decided definition is valid, and explains the report.
-use Rattle.std.proofs.Common.{◌≡◌, ℕ, refl, sym, ap, subst, List, [], ◌∷◌, Bool, true, false, inl, inr, Option, Some, None}
+use Rattle.std.proofs.Common.{◌≡◌, ℕ, refl, sym, subst, List, [], ◌∷◌, Bool, true, false, inl, Option, Some, None}
 use Rattle.std.specs.Prelude.{not, filter, filter_map, find, option_map, IsTrue, if◌then◌else◌}
-use Rattle.std.specs.List.{list_all, All, AllByRecursion}
+use Rattle.std.specs.List.{list_all, AllByRecursion}
 use Rattle.std.proofs.lemmas.List.Elements.{recursion_from_All}
 use Rattle.hk_base.specs.TailoringParts.{TailoringParts}
 use Rattle.hk_base.specs.Fit.{IsFit, IsFitBoot}
@@ -13,13 +13,11 @@ use Rattle.hk_base.specs.declared.types.Definition.{Definition}
 use Rattle.hk_base.specs.declared.types.Structure.{Structure}
 use Rattle.hk_base.proofs.Membership.{IsIn, some_value, IsIn-filter, IsIn-filter_map, AllByRecursion-IsIn}
 use Rattle.report_structures.specs.Changes.{IsFormedState}
-use Rattle.ground_history.specs.Ground.{Ground, IsGrounded}
 use Rattle.definition_intervals.specs.Openings.{Opening, openings}
 use Rattle.definition_intervals.specs.States.{definition_eq, states_from, is_possible_from, is_crowded}
 use Rattle.definition_intervals.specs.Verdicts.{named_request, common_states, explains, explanation, verdict_by, verdict_from, verdict_of}
 use Rattle.definition_intervals.specs.Findings.{IsFormedOpening, IsFormedCandidate}
 use Rattle.definition_intervals.specs.Soundness.{DecisionsAreFormed}
-use Rattle.definition_intervals.specs.declared.answer.Verdict.{Verdict}
 use Rattle.definition_intervals.specs.declared.answer.Verdict.TheVariants.{Decided, Undecidable, Crowded, NoOpening, Impossible}
 use Rattle.definition_intervals.proofs.VerdictLemmas.{decided-same}
 use Rattle.definition_intervals.proofs.GatherLemmas.{openings-formed}

@@ -9,7 +9,6 @@ use Rattle.hk_base.specs.TailoringParts.{TailoringParts}
 use Rattle.hk_base.specs.Parameters.{key_eq, boot_structure}
 use Rattle.hk_base.specs.declared.types.Key.{Key}
 use Rattle.hk_base.specs.declared.types.Structure.{Structure}
-use Rattle.hk_base.proofs.Finds.{slice_get_each}
 use Rattle.hk_base.proofs.Membership.{some_value, IsIn, IsIn-filter_map, IsIn-AllByRecursion, AllByRecursion-IsIn, AllByRecursion-append}
 use Rattle.st03_grammar.specs.Instructions.{StructureChange, changes, structure_changes}
 use Rattle.st04_grammar.specs.Instructions.{StatisticsChange}
@@ -29,7 +28,7 @@ use Rattle.report_structures.proofs.GrammarLemmas.{instruction_of_grammar}
 use Rattle.report_structures.proofs.ReportedLemmas.{reported-formed}
 use Rattle.ground_history.specs.Histories.{Sent, Kept, History, tag_of}
 use Rattle.ground_history.specs.Evidence.{outcome}
-use Rattle.ground_history.specs.Ground.{Ground, IsGrammarSent, IsGrammarKept, IsGrounded}
+use Rattle.ground_history.specs.Ground.{Ground, IsGrammarKept, IsGrounded}
 use Rattle.definition_intervals.specs.Openings.{Candidate, Opening, is_possible, is_certain, candidate, candidates, surely_creates, from_creation, opening, reported_structure, report_opening, boot_openings, openings}
 use Rattle.definition_intervals.specs.Findings.{IsFormedCandidate, IsFormedOpening, with_request}
 use Rattle.definition_intervals.specs.Founds.{ChangesAreFormed, ReportedStatesAreFormed}

@@ -16,6 +16,7 @@ pub mod AgreementLemmas
 pub mod GatherLemmas
 pub mod VerdictLemmas
 pub mod BasisLemmas
+pub mod HeldLemmas
 pub mod FormedDecisions
 pub mod WorldContainment
 pub mod SoundLemmas

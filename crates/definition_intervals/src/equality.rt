@@ -3,8 +3,36 @@ ghost use Rattle.std.specs.Prelude.{◌≡◌};
 ghost use Rattle.std.specs.Option.{option_copied};
 ghost use lib.Pointwise.{pointwise};
 ghost use Rattle.definition_intervals.specs.States.{array_eq, definition_eq, structure_eq, state_eq};
+ghost use Rattle.definition_intervals.specs.Bases.{basis_eq};
 
+use crate::answer::Basis;
 use hk_base::{Definition, Structure, SuperList};
+
+/// Whether two bases are the same, with their states in the same order.
+pub(crate) fn is_same_basis(a: &Basis, b: &Basis) -> bool
+    ensures { result ≡ basis_eq a.now b.now }
+{
+    match (a, b) {
+        (Basis::NoOpening, Basis::NoOpening) => true,
+        (Basis::Crowded(a), Basis::Crowded(b)) => a == b,
+        (Basis::Open(states, a), Basis::Open(others, b)) => {
+            a == b && are_same_states(states.as_slice(), others.as_slice())
+        }
+        _ => false,
+    }
+}
+
+fn are_same_states(a: &[Option<Structure>], b: &[Option<Structure>]) -> bool
+    ensures { result ≡ pointwise state_eq a.now b.now }
+{
+    match (a, b) {
+        ([], []) => true,
+        ([first, rest @ ..], [other, others @ ..]) => {
+            is_same_state(first.as_ref(), other.as_ref()) && are_same_states(rest, others)
+        }
+        _ => false,
+    }
+}
 
 /// Whether both states are absent, or the same structure.
 pub(crate) fn is_same_state(a: Option<&Structure>, b: Option<&Structure>) -> bool

@@ -1,4 +1,4 @@
-use Rattle.std.proofs.Common.{◌≡◌, ◌∙◌, ◌<◌, length, sym, ap, subst, Option, Some, None}
+use Rattle.std.proofs.Common.{◌∙◌, ◌<◌, sym, ap, subst, Option}
 use Rattle.std.specs.Option.{option_copied}
 use Rattle.definition_intervals.specs.Openings.{Candidate, Opening}
 use Rattle.definition_intervals.specs.Findings.{with_request}

@@ -1,10 +1,9 @@
-use Rattle.std.proofs.Common.{◌≡◌, ◌∙◌, ◌++◌, ◌∷◌, ◌<◌, ◌≤◌, List, [], Vec, Global, append-nil, length, take, sym, ap, subst, Option, Some, None}
+use Rattle.std.proofs.Common.{◌≡◌, ◌∙◌, ◌++◌, ◌∷◌, ◌<◌, ◌≤◌, List, [], Vec, Global, append-nil, take, sym, ap, subst, Option, Some, None}
 use Rattle.std.specs.Prelude.{filter_map, option_map}
 use Rattle.std.specs.List.{All}
 use Rattle.std.specs.Option.{option_copied}
 use Rattle.std.proofs.lemmas.List.{take_all}
 use Rattle.hk_base.proofs.Membership.{some_value}
-use Rattle.pus_messages.specs.declared.message.Report.{Report}
 use Rattle.ground_history.specs.Histories.{Kept}
 use Rattle.definition_intervals.specs.Openings.{Opening, boot_openings, report_opening}
 use Rattle.definition_intervals.specs.Findings.{IsFormedOpening}

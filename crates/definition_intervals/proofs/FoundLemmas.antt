@@ -1,19 +1,17 @@
 -- What is found of the possible states and of open changes, one request after the other.
-use Rattle.std.proofs.Common.{arith, ◌≡◌, ℕ, ◌+◌, ◌≤◌, refl, sym, ◌∙◌, ap, subst, List, [], ◌∷◌, ◌++◌, Bool, true, false, ◌||◌, ◌&&◌, Option, Some, None, length, length-append, append_assoc, append-nil, flat_map}
-use Rattle.std.specs.Prelude.{nat_lt, not, filter, find, option_map, if◌then◌else◌}
-use Rattle.std.specs.List.{list_any, list_all, IsDistinct}
+use Rattle.std.proofs.Common.{arith, ◌≡◌, ℕ, ◌≤◌, refl, sym, ◌∙◌, ap, subst, List, [], ◌∷◌, ◌++◌, Bool, true, false, ◌||◌, ◌&&◌, Option, Some, None, length, append_assoc, append-nil, flat_map}
+use Rattle.std.specs.Prelude.{nat_lt, not, find, option_map, if◌then◌else◌}
+use Rattle.std.specs.List.{list_any, list_all}
 use Rattle.std.specs.Option.{option_or, option_map_or}
 use Rattle.std.proofs.lemmas.Map.Made.{length-from_same_keys}
 use Rattle.std.proofs.lemmas.Bool.{both_ways}
 use Rattle.hk_base.specs.TailoringParts.{TailoringParts}
 use Rattle.hk_base.specs.declared.types.Structure.{Structure}
-use Rattle.definition_intervals.specs.Openings.{Candidate, Opening, candidates, from_creation, opening, surely_creates, is_open, first_open}
-use Rattle.definition_intervals.specs.States.{state_eq, next_states, reachable_states, distinct_states, prefixes, states_from, is_possible_from, is_crowded}
-use Rattle.definition_intervals.specs.Verdicts.{common_states, named_request}
-use Rattle.definition_intervals.specs.Findings.{IsSetOf, AreCommon, uncrowded_openings, with_request}
-use Rattle.definition_intervals.specs.Bases.{IsBasis}
-use Rattle.definition_intervals.specs.Founds.{unless_many, found_by, found_after, found_after_all, AreSameFound, IsFoundOf, first_after, first_after_all, OpeningsAreFound, SameIsFound, is_left, is_crowd, AreFoundOf, IsBasisOf, FindsGiveBases}
-use Rattle.definition_intervals.specs.declared.answer.Basis.{Basis}
+use Rattle.definition_intervals.specs.Openings.{Candidate, Opening, candidates, from_creation, surely_creates, is_open, first_open}
+use Rattle.definition_intervals.specs.States.{state_eq, next_states, reachable_states, distinct_states, is_possible_from, is_crowded}
+use Rattle.definition_intervals.specs.Verdicts.{common_states}
+use Rattle.definition_intervals.specs.Findings.{uncrowded_openings, with_request}
+use Rattle.definition_intervals.specs.Founds.{unless_many, found_by, found_after, found_after_all, AreSameFound, IsFoundOf, first_after, first_after_all, OpeningsAreFound, SameIsFound, is_left, is_crowd, AreFoundOf, FindsGiveBases}
 use Rattle.definition_intervals.specs.declared.answer.Basis.TheVariants.{NoOpening, Crowded, Open}
 use Rattle.definition_intervals.proofs.SetLemmas.{state_eq_laws, AreSame, same-any, any-flat_map, distinct-members, distinct-once}
 use Rattle.definition_intervals.proofs.ReachLemmas.{reachable-more, prefixes-more}

@@ -1,12 +1,12 @@
 -- What is found after a request, from the set of states after it.
-use Rattle.std.proofs.Common.{arith, ◌≡◌, ◌<◌, ◌≤◌, refl, sym, ◌∙◌, ap, subst, List, [], ◌∷◌, Bool, true, false, Option, Some, None, length, flat_map}
+use Rattle.std.proofs.Common.{◌≡◌, ◌<◌, ◌≤◌, sym, ◌∙◌, ap, subst, List, true, false, Option, Some, None, length, flat_map}
 use Rattle.std.specs.Prelude.{nat_lt, if◌then◌else◌}
 use Rattle.std.specs.List.{All, AllByRecursion}
 use Rattle.std.proofs.lemmas.Bool.{lt-ltb, le-ltb}
 use Rattle.std.proofs.lemmas.List.Elements.{All-from_recursion, recursion_from_All}
 use Rattle.hk_base.specs.TailoringParts.{TailoringParts}
 use Rattle.hk_base.specs.declared.types.Structure.{Structure}
-use Rattle.hk_base.proofs.Membership.{IsIn, IsIn-flat_map, IsIn-AllByRecursion, AllByRecursion-IsIn}
+use Rattle.hk_base.proofs.Membership.{IsIn-flat_map, IsIn-AllByRecursion, AllByRecursion-IsIn}
 use Rattle.report_structures.specs.Changes.{IsFormedState}
 use Rattle.definition_intervals.specs.Openings.{Candidate}
 use Rattle.definition_intervals.specs.States.{next_states, distinct_states}

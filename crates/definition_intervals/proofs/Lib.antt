@@ -31,3 +31,4 @@ pub mod WorldDecisions
 pub mod ValueLemmas
 pub mod FoundLemmas
 pub mod FoundSteps
+pub mod FindLemmas

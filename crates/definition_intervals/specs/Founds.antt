@@ -96,6 +96,12 @@ AreFoundOf t [] [] = ⊤
 AreFoundOf t (o ∷ os) (found ∷ founds) = IsFoundOf t o found × AreFoundOf t os founds
 AreFoundOf t _ _ = ⊥
 
+-- what is left of the states that some finds have in common: none where all are crowded
+abbrev pub IsCommon : List (Option (List (Option Structure))) → Option (List (Option Structure)) → Type 0
+IsCommon founds None = list_all is_crowd founds ≡ true
+IsCommon founds (Some states) =
+    (list_all is_crowd founds ≡ false) × IsDistinct state_eq states × ((s : Option Structure) → list_any (state_eq s) states ≡ list_all (is_left s) founds)
+
 -- what some that were found leave, with the request to name
 abbrev pub IsBasisOf : List (Option (List (Option Structure))) → ℕ → Basis → Type 0
 IsBasisOf founds named NoOpening = founds ≡ []

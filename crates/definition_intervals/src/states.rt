@@ -144,7 +144,7 @@ fn add_state(states: &mut Vec<Option<Structure>>, state: Option<Structure>) -> R
 }
 
 /// Whether a state is among some.
-pub fn has_state(states: &[Option<Structure>], state: Option<&Structure>) -> bool
+pub(crate) fn has_state(states: &[Option<Structure>], state: Option<&Structure>) -> bool
     ensures { result ≡ list_any (state_eq (option_copied state.entry)) states.now }
 {
     states
@@ -152,7 +152,8 @@ pub fn has_state(states: &[Option<Structure>], state: Option<&Structure>) -> boo
         .any(|other| is_same_state(state, other.as_ref()))
 }
 
-fn copied_state(alloc: Global, state: Option<&Structure>) -> Result<Option<Structure>, Memory>
+/// An equal state.
+pub fn copied_state(alloc: Global, state: Option<&Structure>) -> Result<Option<Structure>, Memory>
     ensures { IfOk result (λ copy. copy ≡ option_copied state.entry) }
 {
     match state {

@@ -1,4 +1,4 @@
-use Rattle.std.proofs.Common.{arith, ◌≡◌, List, Some, sym, ap, subst}
+use Rattle.std.proofs.Common.{arith, List, Some, sym, subst}
 use Rattle.hk_base.specs.declared.types.Structure.{Structure}
 use Rattle.std.specs.Prelude.{Option}
 use Rattle.definition_intervals.specs.Founds.{found_by, AreSameFound, IsFormedFound}

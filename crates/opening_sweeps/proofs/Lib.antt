@@ -1,1 +1,5 @@
+pub mod OutcomeLemmas
 pub mod FoldLemmas
+pub mod CourseLemmas
+pub mod JoinLemmas
+pub mod SettleLemmas

@@ -1,5 +1,6 @@
 //! Openings are put into groups.
 ghost use Rattle.std.specs.Prelude.{◌≡◌, ◌≤◌, ◌<◌, ◌++◌, ◌∷◌, [], ℕ, List, OnOk, IfOk, IfSome, All, length, Some, take, drop, ◌+◌};
+ghost use Rattle.std.specs.Option.{option_copied};
 ghost use Rattle.std.specs.List.{HoldsAt};
 ghost use Rattle.hk_base.specs.TailoringParts.{TailoringParts};
 ghost use Rattle.definition_intervals.specs.Founds.{AreSameFound, IsFormedFound};
@@ -24,11 +25,28 @@ pub(crate) fn add_start(
     ensures reached { OnOk result ((t : TailoringParts) (rs : List Bounded) (limit : ℕ) → place ≤ limit → IsFormedStart t start.now
         → All (IsReached t rs place limit) groups.old.items → All (IsReached t rs place limit) groups.new.items) }
 {
+    let tags = only_tag(alloc, start.tag)?;
+    let states = only_state(alloc, start.state)?;
+    add_openings(alloc, tags, Some(states), place, groups)
+}
+
+fn only_tag(alloc: Global, tag: u64) -> Result<Vec<u64>, Memory>
+    ensures { IfOk result (λ tags. tags.items ≡ tag ∷ []) }
+{
     let mut tags = Vec::new(alloc);
-    tags.push(start.tag)?;
+    tags.push(tag)?;
+    Ok(tags)
+}
+
+fn only_state(
+    alloc: Global,
+    state: Option<&Structure>,
+) -> Result<Items<Option<Structure>>, Memory>
+    ensures { IfOk result (λ states. states ≡ option_copied state.entry ∷ []) }
+{
     let mut states = Vec::new(alloc);
-    states.push(copied_state(alloc, start.state)?)?;
-    add_openings(alloc, tags, Some(Items::from_vec(states)), place, groups)
+    states.push(copied_state(alloc, state)?)?;
+    Ok(Items::from_vec(states))
 }
 
 /// Adds openings of which the same was found when so many requests were settled; nothing where there is no opening.

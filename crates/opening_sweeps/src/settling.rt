@@ -32,16 +32,16 @@ pub(crate) fn settle(
     requires order { from ≤ to }
     requires within { to ≤ length requests.now }
     requires rising { AreRising requests.now }
-    requires formed { All (IsFormedRequest tailoring.found) requests.now }
-    requires bases { All (λ (g : declared.Group). IsFormedFound tailoring.found g.base) groups.items }
-    ensures alike { IfOk result (λ later. (ks : List Course) → AreAlike (drop from requests.now) (map (course_after_all tailoring.found (take from requests.now)) ks) (courses groups.items)
-        → AreAlike (drop to requests.now) (map (course_after_all tailoring.found (take to requests.now)) ks) (courses later.items)) }
-    ensures reached { IfOk result (λ later. (limit : ℕ) → to ≤ limit → All (IsReached tailoring.found requests.now from limit) groups.items → All (IsReached tailoring.found requests.now to limit) later.items) }
+    requires formed { All (IsFormedRequest tailoring.now) requests.now }
+    requires bases { All (λ (g : declared.Group). IsFormedFound tailoring.now g.base) groups.items }
+    ensures alike { IfOk result (λ later. (ks : List Course) → AreAlike (drop from requests.now) (map (course_after_all tailoring.now (take from requests.now)) ks) (courses groups.items)
+        → AreAlike (drop to requests.now) (map (course_after_all tailoring.now (take to requests.now)) ks) (courses later.items)) }
+    ensures reached { IfOk result (λ later. (limit : ℕ) → to ≤ limit → All (IsReached tailoring.now requests.now from limit) groups.items → All (IsReached tailoring.now requests.now to limit) later.items) }
 {
     same_is_found();
     let mut groups = groups;
     for place in from..to {
-        groups = settle_one(alloc, tailoring, &requests[place], place + 1, groups)?;
+        groups = settle_one(alloc, tailoring, &requests[place], place + 1, &groups)?;
     }
     Ok(groups)
 }
@@ -52,17 +52,17 @@ fn settle_one(
     tailoring: &Tailoring,
     request: &Bounded<'_>,
     place: usize,
-    groups: Vec<Group>,
+    groups: &[Group],
 ) -> Result<Vec<Group>, Memory>
-    requires formed { IsFormedRequest tailoring.found request.now }
-    requires bases { All (λ (g : declared.Group). IsFormedFound tailoring.found g.base) groups.items }
+    requires formed { IsFormedRequest tailoring.now request.now }
+    requires bases { All (λ (g : declared.Group). IsFormedFound tailoring.now g.base) groups.now }
     ensures alike { IfOk result (λ later. (rest : List Bounded) → AreRising (request.now ∷ rest)
-        → AreAlike rest (map (course_after tailoring.found request.now) (courses groups.items)) (courses later.items)) }
-    ensures reached { IfOk result (λ later. (rs : List Bounded) → All (IsReached tailoring.found rs place place) later.items) }
+        → AreAlike rest (map (course_after tailoring.now request.now) (courses groups.now)) (courses later.items)) }
+    ensures reached { IfOk result (λ later. (rs : List Bounded) → All (IsReached tailoring.now rs place place) later.items) }
 {
     let mut later = Vec::new(alloc);
     for group in groups {
-        settle_group(alloc, tailoring, request, place, &group, &mut later)?;
+        settle_group(alloc, tailoring, request, place, group, &mut later)?;
     }
     Ok(later)
 }
@@ -76,11 +76,11 @@ fn settle_group(
     group: &Group,
     groups: &mut Vec<Group>,
 ) -> Result<(), Memory>
-    requires request { IsFormedRequest tailoring.found request.now }
-    requires base { IsFormedFound tailoring.found group.now.base }
+    requires request { IsFormedRequest tailoring.now request.now }
+    requires base { IsFormedFound tailoring.now group.now.base }
     ensures alike { OnOk result ((rest : List Bounded) → AreRising (request.now ∷ rest)
-        → AreAlike rest (courses groups.old.items ++ map (course_after tailoring.found request.now) (courses_of group.now)) (courses groups.new.items)) }
-    ensures reached { OnOk result ((rs : List Bounded) → All (IsReached tailoring.found rs place place) groups.old.items → All (IsReached tailoring.found rs place place) groups.new.items) }
+        → AreAlike rest (courses groups.old.items ++ map (course_after tailoring.now request.now) (courses_of group.now)) (courses groups.new.items)) }
+    ensures reached { OnOk result ((rs : List Bounded) → All (IsReached tailoring.now rs place place) groups.old.items → All (IsReached tailoring.now rs place place) groups.new.items) }
 {
     let tags = group.tags.as_slice();
     let past = past_tags(alloc, request, tags)?;
@@ -119,10 +119,10 @@ fn add_settled(
     place: usize,
     groups: &mut Vec<Group>,
 ) -> Result<(), Memory>
-    requires request { IsFormedCandidate tailoring.found request.now }
-    requires base { IsFormedFound tailoring.found base.now }
-    ensures alike { OnOk result ((rest : List Bounded) → AreAlike rest (courses groups.old.items ++ courses_at (found_by_one tailoring.found (Some request.now) base.now) tags.items) (courses groups.new.items)) }
-    ensures reached { OnOk result ((rs : List Bounded) → All (IsReached tailoring.found rs place place) groups.old.items → All (IsReached tailoring.found rs place place) groups.new.items) }
+    requires request { IsFormedCandidate tailoring.now request.now }
+    requires base { IsFormedFound tailoring.now base.now }
+    ensures alike { OnOk result ((rest : List Bounded) → AreAlike rest (courses groups.old.items ++ courses_at (found_by_one tailoring.now (Some request.now) base.now) tags.items) (courses groups.new.items)) }
+    ensures reached { OnOk result ((rs : List Bounded) → All (IsReached tailoring.now rs place place) groups.old.items → All (IsReached tailoring.now rs place place) groups.new.items) }
 {
     if tags.is_empty() {
         return Ok(());

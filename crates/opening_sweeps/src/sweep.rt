@@ -102,11 +102,11 @@ fn swept(
     ghost boot: { List Start }
     requires order { sweep.tag ≤ tag }
     requires rising { AreRising requests.now }
-    requires formed { All (IsFormedRequest tailoring.found) requests.now }
+    requires formed { All (IsFormedRequest tailoring.now) requests.now }
     requires rising_starts { HaveRisingStarts starts.now }
-    requires formed_starts { All (IsFormedStart tailoring.found) starts.now }
-    requires swept { IsSwept tailoring.found requests.now boot starts.now sweep }
-    ensures swept { IfOk result (IsSwept tailoring.found requests.now boot starts.now) }
+    requires formed_starts { All (IsFormedStart tailoring.now) starts.now }
+    requires swept { IsSwept tailoring.now requests.now boot starts.now sweep }
+    ensures swept { IfOk result (IsSwept tailoring.now requests.now boot starts.now) }
     ensures tag { IfOk result (λ later. later.tag ≡ tag) }
 {
     let opened = told_below(starts, sweep.opened, tag);

@@ -22,11 +22,11 @@ pub(crate) fn reach(
     groups: Vec<Group>,
 ) -> Result<Vec<Group>, Memory>
     requires within { to ≤ length requests.now }
-    requires formed { All (IsFormedRequest tailoring.found) requests.now }
-    requires found { All (λ (g : declared.Group). IsFormedFound tailoring.found g.found) groups.items }
+    requires formed { All (IsFormedRequest tailoring.now) requests.now }
+    requires found { All (λ (g : declared.Group). IsFormedFound tailoring.now g.found) groups.items }
     ensures courses { IfOk result (λ later. courses later.items ≡ courses groups.items) }
-    ensures reached { IfOk result (λ later. (settled : ℕ) → All (IsReached tailoring.found requests.now settled to) groups.items
-        → All (IsReached tailoring.found requests.now settled to) later.items × All (λ (g : declared.Group). g.reached ≡ to) later.items) }
+    ensures reached { IfOk result (λ later. (settled : ℕ) → All (IsReached tailoring.now requests.now settled to) groups.items
+        → All (IsReached tailoring.now requests.now settled to) later.items × All (λ (g : declared.Group). g.reached ≡ to) later.items) }
 {
     let mut later = Vec::new(alloc);
     for group in groups {

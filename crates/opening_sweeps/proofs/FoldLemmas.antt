@@ -1,12 +1,13 @@
 -- What is found, and the first open change, after two lists of requests one after the other.
 use Rattle.std.proofs.Common.{arith, ◌≡◌, ℕ, ◌+◌, ◌<◌, ◌≤◌, refl, sym, ◌∙◌, ap, subst, List, [], ◌∷◌, ◌++◌, Bool, true, false, Option, Some, None, length, take, drop, get_or, map, append-nil}
-use Rattle.std.specs.Prelude.{filter_map}
+use Rattle.std.specs.Prelude.{filter_map, if◌then◌else◌}
+use Rattle.std.specs.Option.{option_or}
 use Rattle.std.specs.List.{list_any, cons_option}
-use Rattle.std.proofs.lemmas.List.{take_more, drop-append-le, length-take-le, map_push}
+use Rattle.std.proofs.lemmas.List.{take_more, drop_more, drop-append-le, length-take-le, get_or-take, map_push}
 use Rattle.std.proofs.lemmas.List.Elements.{filter_map-append}
 use Rattle.hk_base.specs.TailoringParts.{TailoringParts}
 use Rattle.hk_base.specs.declared.types.Structure.{Structure}
-use Rattle.definition_intervals.specs.Openings.{Candidate}
+use Rattle.definition_intervals.specs.Openings.{Candidate, is_open}
 use Rattle.definition_intervals.specs.States.{state_eq}
 use Rattle.definition_intervals.specs.Founds.{found_after, found_after_all, first_after_all, AreSameFound, SameIsFound}
 use Rattle.opening_sweeps.specs.Requests.{Bounded, as_request, settled}
@@ -78,3 +79,20 @@ reach-more law t rs s i r now after base le l e h g =
     ap (λ xs. found_after_all t xs base) (unsure-more rs s i r le l e) ∙ after_all-append t cs (c ∷ []) base in
     subst (λ f. AreSameFound after f) (sym whole)
     (same-trans after (found_after t c now) (found_after t c (found_after_all t cs base)) g (law t c now (found_after_all t cs base) h))
+
+-- the first open change among requests that may be left out
+pub first-kept : (rs : List Bounded) (n : ℕ) → first_after_all (unsure rs) (Some n) ≡ Some n
+first-kept [] n = refl
+first-kept (r ∷ rs) n = first-kept rs n
+
+pub first-open : (r : Bounded) (rs : List Bounded) → is_open (as_request false r) ≡ true → first_after_all (unsure (r ∷ rs)) None ≡ Some r.number
+first-open r rs e = ap (λ (b : Bool). first_after_all (unsure rs) (option_or None (if b then Some r.number else None))) e ∙ first-kept rs r.number
+
+pub first-closed : (r : Bounded) (rs : List Bounded) → is_open (as_request false r) ≡ false → first_after_all (unsure (r ∷ rs)) None ≡ first_after_all (unsure rs) None
+first-closed r rs e = ap (λ (b : Bool). first_after_all (unsure rs) (option_or None (if b then Some r.number else None))) e
+
+-- the requests from a place on, before another
+pub tail-split : (rs : List Bounded) (i to : ℕ) (r : Bounded) → i < to → to ≤ length rs → r ≡ get_or rs i r → drop i (take to rs) ≡ r ∷ drop (i + 1) (take to rs)
+tail-split rs i to r l le e =
+    let within : i < length (take to rs) = omega (arith, length-take-le to rs le) in
+    drop_more (take to rs) i r within ∙ ap (λ x. x ∷ drop (i + 1) (take to rs)) (get_or-take to rs i r l ∙ sym e)

@@ -3,3 +3,5 @@ pub mod FoldLemmas
 pub mod CourseLemmas
 pub mod JoinLemmas
 pub mod SettleLemmas
+pub mod GatherLemmas
+pub mod StartLemmas

@@ -3,11 +3,11 @@ use Rattle.std.proofs.Common.{arith, ◌≡◌, ℕ, zero, suc, ◌+◌, ◌<◌
 use Rattle.std.specs.Prelude.{filter, filter_map, find, nat_le, not, ◌&&◌, if◌then◌else◌, IsSomeAnd}
 use Rattle.std.specs.List.{AllByRecursion, All, cons_option}
 use Rattle.std.proofs.lemmas.Bool.{both_ways, and_parts, leb-true, le-leb, not-true}
-use Rattle.std.proofs.lemmas.List.Elements.{All-weaker}
+use Rattle.std.proofs.lemmas.List.Elements.{All-weaker, All-from_recursion, recursion_from_All}
 use Rattle.std.proofs.lemmas.List.{map-append, drop_more, take_more, map_push}
 use Rattle.hk_base.specs.TailoringParts.{TailoringParts}
 use Rattle.hk_base.specs.declared.types.Structure.{Structure}
-use Rattle.hk_base.proofs.Membership.{IsIn, IsIn-left, IsIn-right, IsIn-append, IsIn-filter, filter-IsIn, some_value}
+use Rattle.hk_base.proofs.Membership.{IsIn, IsIn-left, IsIn-right, IsIn-append, IsIn-filter, filter-IsIn, some_value, AllByRecursion-parts}
 use Rattle.definition_intervals.specs.Openings.{Candidate, is_at_most}
 use Rattle.definition_intervals.specs.Founds.{found_after, found_after_all, AreSameFound, SameIsFound, IsFormedFound}
 use Rattle.opening_sweeps.specs.Requests.{Bounded, as_request, settled, IsBelow, AreRising}
@@ -40,7 +40,7 @@ in-after t r k (x ∷ ks) (inl e) = (x, inl refl, e)
 in-after t r k (x ∷ ks) (inr i) = let p = in-after t r k ks i in (p.0, inr p.1, p.2)
 
 -- where a request that isn't past is settled, no later one is past
-not_past : (r later : Bounded) (q : ℕ) → IsBelow r later → is_at_most r.high q ≡ false → is_at_most later.high q ≡ false
+pub not_past : (r later : Bounded) (q : ℕ) → IsBelow r later → is_at_most r.high q ≡ false → is_at_most later.high q ≡ false
 not_past r later q below e = go later.high r.high below.high e
   where
     go : (top low : Option ℕ) → IfSome top (λ n. IsSomeAnd low (λ m. m ≤ n)) → is_at_most low q ≡ false → is_at_most top q ≡ false
@@ -273,3 +273,16 @@ all-limit t rs settled limit more gs le all = All-weaker (IsReached t rs settled
 
 pub all-bases : (t : TailoringParts) (rs : List Bounded) (settled limit : ℕ) (gs : List Group) → All (IsReached t rs settled limit) gs → All (λ (g : Group). IsFormedFound t g.base) gs
 all-bases t rs settled limit gs all = All-weaker (IsReached t rs settled limit) (λ (g : Group). IsFormedFound t g.base) (λ g h. h.base) gs all
+
+-- a group with other finds
+pub courses-same : (gs : List Group) (g h : Group) (earlier later : List Group) → h.tags ≡ g.tags → h.base ≡ g.base → courses earlier ≡ courses gs → later ≡ earlier ++ h ∷ []
+    → courses later ≡ courses (gs ++ g ∷ [])
+courses-same gs g h earlier later tags base same is =
+    ap (λ (xs : List Group). courses xs) is
+    ∙ (courses-push earlier h ∙ (ap (λ ks. ks ++ courses_of h) same
+    ∙ (ap (λ (ts : List ℕ). courses gs ++ courses_at h.base ts) tags ∙ (ap (λ (f : Option (List (Option Structure))). courses gs ++ courses_at f g.tags) base ∙ sym (courses-push gs g)))))
+
+pub all-last : (P : Group → Type 0) (gs : List Group) (g : Group) → All P (gs ++ g ∷ []) → All P gs × P g
+all-last P gs g h =
+    let parts = AllByRecursion-parts P gs (g ∷ []) (recursion_from_All P (gs ++ g ∷ []) h) in
+    (All-from_recursion P gs parts.0, parts.1.0)

@@ -2,7 +2,8 @@
 ghost use Rattle.std.specs.Prelude.{◌≡◌, ◌<◌, Some, IfOk, IfSome, All, length, slice_get, option_to_list};
 ghost use Rattle.hk_base.specs.Parameters.{key_eq};
 ghost use Rattle.ground_history.specs.Histories.{Sent, Kept};
-ghost use Rattle.ground_history.specs.Ground.{IsGrounded};
+ghost use Rattle.ground_history.specs.Ground.{Ground, IsGrounded};
+ghost use Rattle.hk_base.specs.declared.types.Key as declared;
 ghost use Rattle.std.specs.Option.{option_copied};
 ghost use Rattle.definition_intervals.specs.Openings as openings;
 ghost use Rattle.opening_sweeps.specs.Requests as requests;
@@ -12,7 +13,7 @@ use crate::bounded::Bounded;
 use crate::start::Start;
 use definition_intervals::{changes_are_formed, reported_states_are_formed};
 use ground_history::{History, bounds_rise};
-use hk_base::{Key, Memory, Structure};
+use hk_base::{Key, Memory, Structure, greatest_tag};
 use pus_messages::{Report, ReportBody, changes_on};
 use st03_grammar::Report03;
 use std::alloc::Global;
@@ -24,12 +25,8 @@ pub(crate) fn bounded_requests<'a>(
     key: Key,
 ) -> Result<Vec<Bounded<'a>>, Memory>
     requires { IsGrounded history.now }
-    ensures requests { IfOk result (λ found. found.items ≡ requests.bounded_requests history.now.history key) }
-    ensures rising { AreRising (requests.bounded_requests history.now.history key) }
-    ensures formed { All (IsFormedRequest history.now.tailoring) (requests.bounded_requests history.now.history key) }
+    ensures { IfOk result (λ found. found.items ≡ requests.bounded_requests history.now.history key) }
 {
-    bounds_rise();
-    changes_are_formed();
     let mut requests = Vec::new(alloc);
     for number in 0..history.count() {
         if let Some(request) = bounded_request(history, key, number) {
@@ -37,6 +34,23 @@ pub(crate) fn bounded_requests<'a>(
         }
     }
     Ok(requests)
+}
+
+/// What is known of requests bounds them in the order of their numbers, and their changes are of the grammar.
+pub(crate) fn requests_rise()
+    ensures rising { (g : Ground) (key : declared.Key) → IsGrounded g → AreRising (requests.bounded_requests g.history key) }
+    ensures formed { (g : Ground) (key : declared.Key) → IsGrounded g → All (IsFormedRequest g.tailoring) (requests.bounded_requests g.history key) }
+{
+    bounds_rise();
+    changes_are_formed();
+}
+
+/// States were told in the order of tags, and are valid.
+pub(crate) fn starts_rise()
+    ensures rising { (g : Ground) (key : declared.Key) → IsGrounded g → HaveRisingStarts (requests.told_starts g.history key) }
+    ensures formed { (g : Ground) (key : declared.Key) → IsGrounded g → All (IsFormedStart g.tailoring) (requests.told_starts g.history key) }
+{
+    reported_states_are_formed();
 }
 
 /// The request with this number, if it may have changed the structure.
@@ -67,21 +81,16 @@ pub(crate) fn told_starts<'a>(
     key: Key,
 ) -> Result<Vec<Start<'a>>, Memory>
     requires { IsGrounded history.now }
-    ensures starts { IfOk result (λ found. found.items ≡ requests.told_starts history.now.history key) }
-    ensures rising { HaveRisingStarts (requests.told_starts history.now.history key) }
-    ensures formed { All (IsFormedStart history.now.tailoring) (requests.told_starts history.now.history key) }
+    ensures { IfOk result (λ found. found.items ≡ requests.told_starts history.now.history key) }
 {
-    reported_states_are_formed();
+    let _most = greatest_tag(history.tailoring());
     let mut starts = Vec::new(alloc);
     let mut from = 0;
     while let Some(report) = history.report_from(from) {
         if let Some(start) = told_start(key, report) {
             starts.push(start)?;
         }
-        let Some(next) = report.header.tag.checked_add(1) else {
-            return Ok(starts);
-        };
-        from = next;
+        from = report.header.tag + 1;
     }
     Ok(starts)
 }

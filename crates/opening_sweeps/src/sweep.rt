@@ -1,12 +1,13 @@
 //! The sweep over tags.
-ghost use Rattle.std.specs.Prelude.{◌≡◌, ◌≤◌, ◌<◌, ℕ, List, [], ◌∷◌, ◌++◌, IfOk, IfSome, All, length, take, drop, unwrap_or, option_to_list, map};
+ghost use Rattle.std.specs.Prelude.{◌≡◌, ◌≤◌, ◌<◌, ℕ, List, [], ◌∷◌, ◌++◌, IfOk, IfSome, All, length, take, drop, unwrap_or, option_to_list, map, if◌then◌else◌};
 ghost use Rattle.std.specs.List.{IsDistinct};
 ghost use Rattle.std.specs.List.Sorted.{IsStrictlyIncreasing};
 ghost use Rattle.hk_base.specs.TailoringParts.{TailoringParts};
 ghost use Rattle.definition_intervals.specs.States.{state_eq};
 ghost use Rattle.definition_intervals.specs.Bases.{AreBases, IsFormedBasis};
 ghost use Rattle.definition_intervals.specs.Founds.{IsBasisOf, IsFormedFound, first_after_all};
-ghost use Rattle.opening_sweeps.specs.Requests.{Bounded, Start, AreRising, HaveRisingStarts, IsFormedRequest, IsFormedStart};
+ghost use Rattle.opening_sweeps.specs.Requests as requests;
+ghost use Rattle.opening_sweeps.specs.Requests.{AreRising, HaveRisingStarts, IsFormedRequest, IsFormedStart};
 ghost use Rattle.opening_sweeps.specs.Courses.{AreAlike, course_of};
 ghost use Rattle.opening_sweeps.specs.Groups.{courses, finds, unsure, IsReached};
 ghost use Rattle.opening_sweeps.specs.Sweeps.{IsSwept, last_tag};
@@ -14,7 +15,7 @@ ghost use Rattle.opening_sweeps.specs.declared.group.Group as declared;
 
 use crate::bounded::Bounded;
 use crate::cursors::{listed_below, settled_before, told_below};
-use crate::gathering::{boot_start, bounded_requests, told_starts};
+use crate::gathering::{boot_start, bounded_requests, requests_rise, starts_rise, told_starts};
 use crate::group::Group;
 use crate::naming::{first_settled, named_request};
 use crate::narrowing::common_states;
@@ -58,6 +59,8 @@ pub fn bases(
     openings_are_found();
     finds_give_bases();
     same_is_found();
+    requests_rise();
+    starts_rise();
     let tailoring = history.tailoring();
     let requests = bounded_requests(alloc, history, key)?;
     let starts = told_starts(alloc, history, key)?;
@@ -72,22 +75,40 @@ pub fn bases(
 
 /// A sweep at tag 0, before which nothing but the boot state opens.
 fn begun(alloc: Global, boot: Option<Start<'_>>) -> Result<Sweep, Memory>
-    ensures swept { IfOk result (λ sweep. (t : TailoringParts) (rs : List Bounded) (told : List Start) → IfSome boot.entry (IsFormedStart t) → IsSwept t rs (option_to_list boot.entry) told sweep) }
+    ensures swept { IfOk result (λ sweep. (t : TailoringParts) (rs : List requests.Bounded) (told : List requests.Start) → IfSome boot.entry (IsFormedStart t)
+        → IsSwept t rs (option_to_list boot.entry) told sweep) }
     ensures tag { IfOk result (λ sweep. sweep.tag ≡ 0) }
+{
+    let latest = first_tag(&boot);
+    Ok(Sweep {
+        tag: 0,
+        groups: first_groups(alloc, boot)?,
+        opened: 0,
+        settled: 0,
+        listed: 0,
+        latest,
+        first: None,
+    })
+}
+
+fn first_tag(boot: &Option<Start<'_>>) -> u64
+    ensures { result ≡ last_tag 0 (option_to_list boot.now) }
+{
+    match boot {
+        Some(start) => start.tag,
+        None => 0,
+    }
+}
+
+fn first_groups(alloc: Global, boot: Option<Start<'_>>) -> Result<Vec<Group>, Memory>
+    ensures alike { IfOk result (λ groups. (rest : List requests.Bounded) → AreAlike rest (map course_of (option_to_list boot.entry)) (courses groups.items)) }
+    ensures reached { IfOk result (λ groups. (t : TailoringParts) (rs : List requests.Bounded) → IfSome boot.entry (IsFormedStart t) → All (IsReached t rs 0 0) groups.items) }
 {
     let mut groups = Vec::new(alloc);
     if let Some(start) = boot {
         add_start(alloc, &start, 0, &mut groups)?;
     }
-    Ok(Sweep {
-        tag: 0,
-        groups,
-        opened: 0,
-        settled: 0,
-        listed: 0,
-        latest: 0,
-        first: None,
-    })
+    Ok(groups)
 }
 
 /// The sweep at a tag that isn't lower.
@@ -99,28 +120,26 @@ fn swept(
     tag: u64,
     sweep: Sweep,
 ) -> Result<Sweep, Memory>
-    ghost boot: { List Start }
-    requires order { sweep.tag ≤ tag }
-    requires rising { AreRising requests.now }
+    requires opened { sweep.opened ≤ length starts.now }
+    requires order { sweep.settled ≤ sweep.listed }
+    requires listed { sweep.listed ≤ length requests.now }
+    requires reached { All (IsReached tailoring.now requests.now sweep.settled sweep.listed) sweep.groups.items }
     requires formed { All (IsFormedRequest tailoring.now) requests.now }
-    requires rising_starts { HaveRisingStarts starts.now }
-    requires formed_starts { All (IsFormedStart tailoring.now) starts.now }
-    requires swept { IsSwept tailoring.now requests.now boot starts.now sweep }
-    ensures swept { IfOk result (IsSwept tailoring.now requests.now boot starts.now) }
+    requires rising { AreRising requests.now }
+    requires starts { All (IsFormedStart tailoring.now) starts.now }
+    ensures swept { IfOk result (λ later. (boot : List requests.Start) → sweep.tag ≤ tag → HaveRisingStarts starts.now
+        → IsSwept tailoring.now requests.now boot starts.now sweep → IsSwept tailoring.now requests.now boot starts.now later) }
     ensures tag { IfOk result (λ later. later.tag ≡ tag) }
 {
     let opened = told_below(starts, sweep.opened, tag);
     let listed = listed_below(requests, sweep.listed, tag);
     let settled = settled_before(requests, sweep.settled, listed, tag);
+    let latest = latest_of(starts, sweep.opened, opened, sweep.latest);
+    let first = first_of(sweep.first, sweep.opened < opened);
+    let first = first_settled(requests, sweep.settled, settled, latest, first);
     let groups = open(alloc, starts, sweep.opened, opened, sweep.settled, sweep.groups)?;
     let groups = settle(alloc, tailoring, requests, sweep.settled, settled, groups)?;
     let groups = reach(alloc, tailoring, requests, listed, groups)?;
-    let latest = latest_of(&starts[sweep.opened..opened], sweep.latest);
-    let first = if opened > sweep.opened {
-        None
-    } else {
-        sweep.first
-    };
     Ok(Sweep {
         tag,
         groups,
@@ -128,18 +147,29 @@ fn swept(
         settled,
         listed,
         latest,
-        first: first_settled(requests, sweep.settled, settled, latest, first),
+        first,
     })
 }
 
-/// The tag of the last of some states that opened; that of the latest before them where there is none.
-fn latest_of(starts: &[Start<'_>], latest: u64) -> u64
-    ensures { result ≡ last_tag latest starts.now }
+/// The tag of the last of the states from one place to another; that of the latest before them where there is none.
+fn latest_of(starts: &[Start<'_>], from: usize, to: usize, latest: u64) -> u64
+    requires order { from ≤ to }
+    requires within { to ≤ length starts.now }
+    ensures { result ≡ last_tag latest (drop from (take to starts.now)) }
 {
-    match starts.last() {
-        Some(start) => start.tag,
-        None => latest,
+    let mut latest = latest;
+    for place in from..to {
+        let start = &starts[place];
+        latest = start.tag;
     }
+    latest
+}
+
+/// The first open change so far, if the latest opening is still the same.
+fn first_of(first: Option<u64>, changed: bool) -> Option<u64>
+    ensures { result ≡ (if changed then None else first) }
+{
+    if changed { None } else { first }
 }
 
 /// Adds the openings of the states from one place to another, before which so many requests are settled.
@@ -153,8 +183,8 @@ fn open(
 ) -> Result<Vec<Group>, Memory>
     requires order { from ≤ to }
     requires within { to ≤ length starts.now }
-    ensures alike { IfOk result (λ later. (rest : List Bounded) → AreAlike rest (courses groups.items ++ map course_of (drop from (take to starts.now))) (courses later.items)) }
-    ensures reached { IfOk result (λ later. (t : TailoringParts) (rs : List Bounded) (limit : ℕ) → settled ≤ limit → All (IsFormedStart t) starts.now
+    ensures alike { IfOk result (λ later. (rest : List requests.Bounded) → AreAlike rest (courses groups.items ++ map course_of (drop from (take to starts.now))) (courses later.items)) }
+    ensures reached { IfOk result (λ later. (t : TailoringParts) (rs : List requests.Bounded) (limit : ℕ) → settled ≤ limit → All (IsFormedStart t) starts.now
         → All (IsReached t rs settled limit) groups.items → All (IsReached t rs settled limit) later.items) }
 {
     let mut groups = groups;

@@ -24,9 +24,11 @@ pub(crate) fn reach(
     requires within { to ≤ length requests.now }
     requires formed { All (IsFormedRequest tailoring.now) requests.now }
     requires found { All (λ (g : declared.Group). IsFormedFound tailoring.now g.found) groups.items }
+    requires limited { All (λ (g : declared.Group). g.reached ≤ to) groups.items }
     ensures courses { IfOk result (λ later. courses later.items ≡ courses groups.items) }
     ensures reached { IfOk result (λ later. (settled : ℕ) → All (IsReached tailoring.now requests.now settled to) groups.items
-        → All (IsReached tailoring.now requests.now settled to) later.items × All (λ (g : declared.Group). g.reached ≡ to) later.items) }
+        → All (IsReached tailoring.now requests.now settled to) later.items) }
+    ensures ends { IfOk result (λ later. All (λ (g : declared.Group). g.reached ≡ to) later.items) }
 {
     let mut later = Vec::new(alloc);
     for group in groups {

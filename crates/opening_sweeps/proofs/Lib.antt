@@ -5,3 +5,4 @@ pub mod JoinLemmas
 pub mod SettleLemmas
 pub mod GatherLemmas
 pub mod StartLemmas
+pub mod SweepLemmas

@@ -6,7 +6,7 @@ ghost use Rattle.hk_base.specs.TailoringParts.{TailoringParts};
 ghost use Rattle.definition_intervals.specs.States.{state_eq};
 ghost use Rattle.definition_intervals.specs.Bases.{AreBases, IsFormedBasis};
 ghost use Rattle.definition_intervals.specs.Founds.{IsBasisOf, IsFormedFound, first_after_all};
-ghost use Rattle.opening_sweeps.specs.Requests as requests;
+ghost use Rattle.opening_sweeps.specs.Requests as known;
 ghost use Rattle.opening_sweeps.specs.Requests.{AreRising, HaveRisingStarts, IsFormedRequest, IsFormedStart};
 ghost use Rattle.opening_sweeps.specs.Courses.{AreAlike, course_of};
 ghost use Rattle.opening_sweeps.specs.Groups.{courses, finds, unsure, IsReached};
@@ -75,7 +75,7 @@ pub fn bases(
 
 /// A sweep at tag 0, before which nothing but the boot state opens.
 fn begun(alloc: Global, boot: Option<Start<'_>>) -> Result<Sweep, Memory>
-    ensures swept { IfOk result (λ sweep. (t : TailoringParts) (rs : List requests.Bounded) (told : List requests.Start) → IfSome boot.entry (IsFormedStart t)
+    ensures swept { IfOk result (λ sweep. (t : TailoringParts) (rs : List known.Bounded) (told : List known.Start) → IfSome boot.entry (IsFormedStart t)
         → IsSwept t rs (option_to_list boot.entry) told sweep) }
     ensures tag { IfOk result (λ sweep. sweep.tag ≡ 0) }
 {
@@ -101,13 +101,14 @@ fn first_tag(boot: &Option<Start<'_>>) -> u64
 }
 
 fn first_groups(alloc: Global, boot: Option<Start<'_>>) -> Result<Vec<Group>, Memory>
-    ensures alike { IfOk result (λ groups. (rest : List requests.Bounded) → AreAlike rest (map course_of (option_to_list boot.entry)) (courses groups.items)) }
-    ensures reached { IfOk result (λ groups. (t : TailoringParts) (rs : List requests.Bounded) → IfSome boot.entry (IsFormedStart t) → All (IsReached t rs 0 0) groups.items) }
+    ensures alike { IfOk result (λ groups. (rest : List known.Bounded) → AreAlike rest (map course_of (option_to_list boot.entry)) (courses groups.items)) }
+    ensures reached { IfOk result (λ groups. (t : TailoringParts) (rs : List known.Bounded) → IfSome boot.entry (IsFormedStart t) → All (IsReached t rs 0 0) groups.items) }
 {
     let mut groups = Vec::new(alloc);
-    if let Some(start) = boot {
-        add_start(alloc, &start, 0, &mut groups)?;
-    }
+    let Some(start) = boot else {
+        return Ok(groups);
+    };
+    add_start(alloc, &start, 0, &mut groups)?;
     Ok(groups)
 }
 
@@ -127,7 +128,7 @@ fn swept(
     requires formed { All (IsFormedRequest tailoring.now) requests.now }
     requires rising { AreRising requests.now }
     requires starts { All (IsFormedStart tailoring.now) starts.now }
-    ensures swept { IfOk result (λ later. (boot : List requests.Start) → sweep.tag ≤ tag → HaveRisingStarts starts.now
+    ensures swept { IfOk result (λ later. (boot : List known.Start) → sweep.tag ≤ tag → HaveRisingStarts starts.now
         → IsSwept tailoring.now requests.now boot starts.now sweep → IsSwept tailoring.now requests.now boot starts.now later) }
     ensures tag { IfOk result (λ later. later.tag ≡ tag) }
 {
@@ -183,8 +184,8 @@ fn open(
 ) -> Result<Vec<Group>, Memory>
     requires order { from ≤ to }
     requires within { to ≤ length starts.now }
-    ensures alike { IfOk result (λ later. (rest : List requests.Bounded) → AreAlike rest (courses groups.items ++ map course_of (drop from (take to starts.now))) (courses later.items)) }
-    ensures reached { IfOk result (λ later. (t : TailoringParts) (rs : List requests.Bounded) (limit : ℕ) → settled ≤ limit → All (IsFormedStart t) starts.now
+    ensures alike { IfOk result (λ later. (rest : List known.Bounded) → AreAlike rest (courses groups.items ++ map course_of (drop from (take to starts.now))) (courses later.items)) }
+    ensures reached { IfOk result (λ later. (t : TailoringParts) (rs : List known.Bounded) (limit : ℕ) → settled ≤ limit → All (IsFormedStart t) starts.now
         → All (IsReached t rs settled limit) groups.items → All (IsReached t rs settled limit) later.items) }
 {
     let mut groups = groups;

@@ -14,8 +14,8 @@ loop-place-preserved c =
     let ss = c.args.starts.now in
     let from = c.args.from in
     let i = c.loop-place.place in
-    let s = c.index-start.result in
+    let s = c.index-starts-place.result in
     let order : from ≤ i = omega arith in
     let within : i < length ss = omega arith in
     ap (λ (x : Start). x.tag) c.start.view_is
-    ∙ sym (ap (λ (xs : List Start). last_tag c.args.latest xs) (part-more ss from i s order within c.index-start.is) ∙ last-append c.args.latest (drop from (take i ss)) (s ∷ []))
+    ∙ sym (ap (λ (xs : List Start). last_tag c.args.latest xs) (part-more ss from i s order within c.index-starts-place.is) ∙ last-append c.args.latest (drop from (take i ss)) (s ∷ []))

@@ -45,3 +45,10 @@ loop-place-preserved c =
           c.in_ok-add_start.ensures.reached t rs limit le (subst (λ (x : Start). IsFormedStart t x) (sym c.index-starts-place.is) (All-get_or (IsFormedStart t) ss i s within formed))
           (c.loop-place.invariant.reached t rs limit le formed all);
     }
+
+pub returns-clause-alike : goal.returns-clause-alike
+returns-clause-alike c =
+    let end : c.loop-place.place ≡ c.args.to = omega arith in
+    λ rest.
+        subst (λ (n : ℕ). AreAlike rest (courses c.args.groups.items ++ map course_of (drop c.args.from (take n c.args.starts.now))) (courses c.loop-place.groups.items)) end
+        (c.loop-place.invariant.alike rest)

@@ -6,3 +6,5 @@ pub mod SettleLemmas
 pub mod GatherLemmas
 pub mod StartLemmas
 pub mod SweepLemmas
+pub mod ListLemmas
+pub mod BasisLemmas

@@ -18,12 +18,12 @@ use Rattle.opening_sweeps.proofs.FoldLemmas.{same-refl, after_all-append, settle
 use Rattle.opening_sweeps.proofs.CourseLemmas.{like-refl, has-like, alike-from, alike-refl, alike-trans, alike-append, alike-after, courses-push}
 
 -- courses at tags
-at-in : (f : Option (List (Option Structure))) (q : ℕ) (tags : List ℕ) → IsIn q tags → IsIn (record { tag = q; found = f }) (courses_at f tags)
+pub at-in : (f : Option (List (Option Structure))) (q : ℕ) (tags : List ℕ) → IsIn q tags → IsIn (record { tag = q; found = f }) (courses_at f tags)
 at-in f q [] i = absurd i
 at-in f q (x ∷ tags) (inl e) = inl (ap (λ n. record { tag = n; found = f }) e)
 at-in f q (x ∷ tags) (inr i) = inr (at-in f q tags i)
 
-in-at : (f : Option (List (Option Structure))) (k : Course) (tags : List ℕ) → IsIn k (courses_at f tags) → (q : ℕ) × IsIn q tags × (k ≡ record { tag = q; found = f })
+pub in-at : (f : Option (List (Option Structure))) (k : Course) (tags : List ℕ) → IsIn k (courses_at f tags) → (q : ℕ) × IsIn q tags × (k ≡ record { tag = q; found = f })
 in-at f k [] i = absurd i
 in-at f k (x ∷ tags) (inl e) = (x, inl refl, e)
 in-at f k (x ∷ tags) (inr i) = let r = in-at f k tags i in (r.0, inr r.1, r.2)

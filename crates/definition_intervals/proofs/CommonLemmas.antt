@@ -24,7 +24,7 @@ filter-apart s test (x ∷ ss) h = go (test x) (filter-apart s test ss h.1)
     go true rest = (h.0, rest)
     go false rest = rest
 
-filter-once : (test : Option Structure → Bool) (ss : List (Option Structure)) → IsDistinct state_eq ss → IsDistinct state_eq (filter test ss)
+pub filter-once : (test : Option Structure → Bool) (ss : List (Option Structure)) → IsDistinct state_eq ss → IsDistinct state_eq (filter test ss)
 filter-once test [] h = h
 filter-once test (x ∷ ss) h = go (test x) (filter-once test ss (IsDistinct-tail state_eq x ss h))
   where
@@ -32,11 +32,11 @@ filter-once test (x ∷ ss) h = go (test x) (filter-once test ss (IsDistinct-tai
     go true rest = IsDistinct-cons state_eq x (filter test ss) (filter-apart x test ss (IsDistinct-head state_eq x ss h)) rest
     go false rest = rest
 
-filter-members : (test : Option Structure → Bool) (q : Option Structure) (ss : List (Option Structure)) → list_any (state_eq q) (filter test ss) ≡ (list_any (state_eq q) ss && test q)
+pub filter-members : (test : Option Structure → Bool) (q : Option Structure) (ss : List (Option Structure)) → list_any (state_eq q) (filter test ss) ≡ (list_any (state_eq q) ss && test q)
 filter-members test q ss = is_member-filter state_eq_laws test q (λ x e. ap test ((state_eq-Decides q x).0 e)) ss
 
 -- a common state is one that is possible from each opening
-common-members : (t : TailoringParts) (q : Option Structure) (o : Opening) (os : List Opening) → list_any (state_eq q) (common_states t (o ∷ os)) ≡ list_all (is_possible_from t q) (o ∷ os)
+pub common-members : (t : TailoringParts) (q : Option Structure) (o : Opening) (os : List Opening) → list_any (state_eq q) (common_states t (o ∷ os)) ≡ list_all (is_possible_from t q) (o ∷ os)
 common-members t q o os = filter-members (λ state. list_all (is_possible_from t state) os) q (states_from t o)
 
 and_true : (b : Bool) → (b && true) ≡ b

@@ -31,6 +31,7 @@ use Rattle.ground_history.specs.Evidence.{outcome}
 use Rattle.ground_history.specs.Ground.{Ground, IsGrammarKept, IsGrounded}
 use Rattle.definition_intervals.specs.Openings.{Candidate, Opening, is_possible, is_certain, candidate, candidates, surely_creates, from_creation, opening, reported_structure, report_opening, boot_openings, openings}
 use Rattle.definition_intervals.specs.Findings.{IsFormedCandidate, IsFormedOpening, with_request}
+use Rattle.definition_intervals.specs.Founds.{ChangesAreFormed, ReportedStatesAreFormed}
 use Rattle.definition_intervals.proofs.CandidateLemmas.{change_found}
 
 -- one more member with its number
@@ -170,6 +171,12 @@ change-formed t key (Hk r) j x c is e h =
 change-formed t key (Stat r) j x c is e h = absurd (let no : None ≡ Some c → ⊥ = λ e. cc in no (sym (on_statistics-none key _ j x e) ∙ h))
 change-formed t key (Par r) j x c is e h = absurd (let no : None ≡ Some c → ⊥ = λ e. cc in no (sym (values-none key r j x e) ∙ h))
 
+-- the change that a request of the grammar makes of a structure
+pub changes-formed : ChangesAreFormed
+changes-formed t key r number change is e =
+    let f = change_found key (instructions r) 1 number change e in
+    change-formed t key r.body f.0 f.1 change is.body f.3 f.4
+
 -- a request of the grammar with few instructions
 abbrev IsGroundedRequest : TailoringParts → Request → Type 0
 IsGroundedRequest t r = IsRequest t r × (length (instructions r) ≤ 255)
@@ -243,6 +250,9 @@ reported-state t key (tell.Hk (hk.Periodic kind rows)) is = tt
 reported-state t key (tell.Verify v) is = tt
 reported-state t key (tell.Stat r) is = tt
 reported-state t key (tell.Par r) is = tt
+
+pub reported-states-formed : ReportedStatesAreFormed
+reported-states-formed t key r is = reported-state t key r.body is.body
 
 report-formed : (g : Ground) (key : Key) (tag : ℕ) (k : Kept) (o : Opening) → IsGrounded g → IsReport g.tailoring k.report → report_opening g.history key tag k ≡ Some o
     → IsFormedOpening g.tailoring o

@@ -29,3 +29,6 @@ pub mod KnownWorlds
 pub mod WorldGrowth
 pub mod WorldDecisions
 pub mod ValueLemmas
+pub mod FoundLemmas
+pub mod FoundSteps
+pub mod FindLemmas

@@ -128,7 +128,7 @@ agreed-formed t c Unknown s a (Ok z) g f e (inr i) = absurd i
 agreed-formed t c Unknown s a (Err z) g f e (inl p) = subst (λ x. IsFormedState t x) (sym p) f
 agreed-formed t c Unknown s a (Err z) g f e (inr i) = absurd i
 
-next-formed : (t : TailoringParts) (c : Candidate) (s a : Option Structure) → IsFormedCandidate t c → IsFormedState t s → IsIn a (next_states t c s) → IsFormedState t a
+pub next-formed : (t : TailoringParts) (c : Candidate) (s a : Option Structure) → IsFormedCandidate t c → IsFormedState t s → IsIn a (next_states t c s) → IsFormedState t a
 next-formed t c s a g f i = go (next-cases t c s a i)
   where
     go : ((c.certain ≡ false) × (a ≡ s)) ⊎ IsIn a (agreed_states c.outcome s (effect t c.change s)) → IsFormedState t a

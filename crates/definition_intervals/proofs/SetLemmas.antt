@@ -155,7 +155,7 @@ with-once s ss h = go (list_any (state_eq s) ss) refl
     go true e = h
     go false e = IsDistinct-cons state_eq s ss (apart s ss e) h
 
-distinct-once : (ss : List (Option Structure)) → IsDistinct state_eq (distinct_states ss)
+pub distinct-once : (ss : List (Option Structure)) → IsDistinct state_eq (distinct_states ss)
 unfolding IsDistinct
 distinct-once [] = tt
 distinct-once (s ∷ ss) = with-once s (distinct_states ss) (distinct-once ss)

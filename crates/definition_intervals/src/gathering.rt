@@ -152,7 +152,7 @@ fn with_request<'a>(
 }
 
 /// Whether a request is certain, and its creation was done.
-fn surely_creates(request: &Candidate<'_>) -> bool
+pub fn surely_creates(request: &Candidate<'_>) -> bool
     ensures { result ≡ openings.surely_creates request.now }
 {
     request.certain && is_known_done(request.outcome) && is_creation(&request.change)

@@ -53,7 +53,7 @@ fn first_open(opening: &Opening<'_>) -> Option<u64>
 }
 
 /// Whether a request can change the definition, and isn't certain with a known outcome.
-fn is_open(request: &Candidate<'_>) -> bool
+pub fn is_open(request: &Candidate<'_>) -> bool
     ensures { result ≡ openings.is_open request.now }
 {
     redefines(&request.change) && !(request.certain && is_known(request.outcome))

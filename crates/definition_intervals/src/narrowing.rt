@@ -81,7 +81,7 @@ fn narrowed(
 }
 
 /// The states that are among others, too.
-fn shared_states(
+pub(crate) fn shared_states(
     alloc: Global,
     states: Items<Option<Structure>>,
     others: &[Option<Structure>],

@@ -17,7 +17,7 @@ use st03_grammar::Change;
 use std::alloc::Global;
 
 /// Most states that are possible from an opening that isn't crowded.
-const MOST_STATES: usize = 64;
+pub(crate) const MOST_STATES: usize = 64;
 
 /// The states that are possible from an opening, each once; None where the opening is crowded.
 pub fn possible_states(
@@ -48,7 +48,7 @@ fn only_state(alloc: Global, state: Option<&Structure>) -> Result<Vec<Option<Str
 }
 
 /// The states after a request that was left out or taken in each of these, each once.
-fn states_after(
+pub(crate) fn states_after(
     alloc: Global,
     tailoring: &Tailoring,
     request: &Candidate<'_>,
@@ -152,7 +152,8 @@ pub(crate) fn has_state(states: &[Option<Structure>], state: Option<&Structure>)
         .any(|other| is_same_state(state, other.as_ref()))
 }
 
-fn copied_state(alloc: Global, state: Option<&Structure>) -> Result<Option<Structure>, Memory>
+/// An equal state.
+pub fn copied_state(alloc: Global, state: Option<&Structure>) -> Result<Option<Structure>, Memory>
     ensures { IfOk result (λ copy. copy ≡ option_copied state.entry) }
 {
     match state {

@@ -6,12 +6,12 @@ ghost use Rattle.ground_history.specs.Ground.{IsGrounded};
 ghost use Rattle.verdict_tables.specs.Places.{is_among, places};
 ghost use Rattle.verdict_tables.specs.Collecting.{IsTable, HasTable, collected_places, held_for};
 
-use crate::bases::bases;
 use crate::collecting::collected;
 use crate::ranges::Ranges;
 use crate::structures::Structures;
 use ground_history::History;
 use hk_base::{Items, Key, Memory};
+use opening_sweeps::bases;
 use std::alloc::Global;
 
 /// Most ranges of a structure: their number has 32 bits.

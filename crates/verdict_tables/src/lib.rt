@@ -1,7 +1,6 @@
 //! Verdicts on parameter reports from tables of tag ranges.
 #![tactic(auto)]
 
-mod bases;
 mod building;
 mod collecting;
 mod keys;

@@ -1,0 +1,12 @@
+use Rattle.std.proofs.Common.{◌≡◌, ◌++◌, length}
+use Rattle.std.specs.Prelude.{filter_map}
+use Rattle.opening_sweeps.specs.Requests as requests
+use Rattle.opening_sweeps.proofs.GatherLemmas.{kept_from}
+use Rattle.opening_sweeps.proofs.gathering.told_starts.Given as goal
+
+abbrev pub invariant-loop-report : goal.invariant-loop-report
+invariant-loop-report l =
+    l.starts.items ++ filter_map (requests.told_start l.key) (kept_from l.from l.history.history.kept) ≡ requests.told_starts l.history.history l.key
+
+abbrev pub decreases-loop-report : goal.decreases-loop-report
+decreases-loop-report l = length (kept_from l.from l.history.history.kept)

@@ -1,0 +1,4 @@
+pub mod Requests
+pub mod Courses
+pub mod Groups
+pub mod Sweeps

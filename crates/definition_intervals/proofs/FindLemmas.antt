@@ -54,17 +54,19 @@ common-crowded founds (Some states) h =
 
 -- one more that isn't
 pub common-found : (founds : List (Option (List (Option Structure)))) (found : List (Option Structure)) → IsDistinct state_eq found → IsCommon founds None → IsCommon (founds ++ Some found ∷ []) (Some found)
-common-found founds found once h =
-    (crowds-more founds (Some found) ∙ and_false (list_all is_crowd founds),
-    once,
-    λ s. sym (left-more s founds (Some found) ∙ ap (λ b. b && list_any (state_eq s) found) (left-by_crowds s founds h)))
+common-found founds found once h = (
+  crowds-more founds (Some found) ∙ and_false (list_all is_crowd founds),
+  once,
+  λ s. sym (left-more s founds (Some found) ∙ ap (λ b. b && list_any (state_eq s) found) (left-by_crowds s founds h)),
+)
 
 pub common-shared : (founds : List (Option (List (Option Structure)))) (states found : List (Option Structure)) → IsCommon founds (Some states)
     → IsCommon (founds ++ Some found ∷ []) (Some (shared_states states found))
-common-shared founds states found h =
-    (crowds-more founds (Some found) ∙ and_false (list_all is_crowd founds),
-    filter-once (λ s. list_any (state_eq s) found) states h.1,
-    λ s. filter-members (λ x. list_any (state_eq x) found) s states ∙ (ap (λ b. b && list_any (state_eq s) found) (h.2 s) ∙ sym (left-more s founds (Some found))))
+common-shared founds states found h = (
+  crowds-more founds (Some found) ∙ and_false (list_all is_crowd founds),
+  filter-once (λ s. list_any (state_eq s) found) states h.1,
+  λ s. filter-members (λ x. list_any (state_eq x) found) s states ∙ (ap (λ b. b && list_any (state_eq s) found) (h.2 s) ∙ sym (left-more s founds (Some found))),
+)
 
 pub shared-formed : (t : TailoringParts) (states found : List (Option Structure)) → All (IsFormedState t) states → All (IsFormedState t) (shared_states states found)
 shared-formed t states found h = All-filter (λ s. list_any (state_eq s) found) (IsFormedState t) states h

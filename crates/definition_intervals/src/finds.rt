@@ -66,9 +66,7 @@ fn are_same_states(a: &[Option<Structure>], b: &[Option<Structure>]) -> bool
 fn are_among(states: &[Option<Structure>], others: &[Option<Structure>]) -> bool
     ensures { result ≡ list_all (λ s. list_any (state_eq s) others.now) states.now }
 {
-    states
-        .iter()
-        .all(|state| has_state(others, state.as_ref()))
+    states.iter().all(|state| has_state(others, state.as_ref()))
 }
 
 /// What one more find leaves of the states that all finds so far have in common; None where all were crowded.

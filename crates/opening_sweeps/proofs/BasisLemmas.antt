@@ -123,11 +123,13 @@ finds-there law t h key tag rs m b ss gs lists reached ends alike f i =
     let tail = unsure (drop m (take b rs)) in
     let base : AreSameFound k.found g.0.base = subst (λ (c : Course). AreSameFound k.found c.found) q.2 l.2.0 in
     let same = group-found t rs m b g.0 (AllByRecursion-IsIn (IsReached t rs m b) g.0 gs reached g.1) (AllByRecursion-IsIn (λ (z : Group). z.reached ≡ b) g.0 gs ends g.1) in
-    let is = x.2 ∙ found-split t h key tag rs m b x.0 (lists x.0 x.1) in
-    (g.0.found, map-in (λ (z : Group). z.found) g.0 gs g.1,
-    subst (λ z. AreSameFound z g.0.found) (sym is)
-    (same-trans (found_after_all t tail k.found) (found_after_all t tail g.0.base) g.0.found (after_all-same law t tail k.found g.0.base base)
-    (same-sym g.0.found (found_after_all t tail g.0.base) same)))
+    let is = x.2 ∙ found-split t h key tag rs m b x.0 (lists x.0 x.1) in (
+      g.0.found,
+      map-in (λ (z : Group). z.found) g.0 gs g.1,
+      subst (λ z. AreSameFound z g.0.found) (sym is)
+          (same-trans (found_after_all t tail k.found) (found_after_all t tail g.0.base) g.0.found (after_all-same law t tail k.found g.0.base base)
+          (same-sym g.0.found (found_after_all t tail g.0.base) same)),
+    )
 
 finds-back : SameIsFound → (t : TailoringParts) (h : History) (key : Key) (tag : ℕ) (rs : List Bounded) (m b : ℕ) (ss : List Start) (gs : List Group)
     → ((x : Start) → IsIn x ss → candidates h key x.tag tag ≡ filter_map (settled x.tag) (take m rs) ++ unsure (drop m (take b rs)))
@@ -147,11 +149,13 @@ finds-back law t h key tag rs m b ss gs lists reached ends alike f i =
     let tail = unsure (drop m (take b rs)) in
     let base : AreSameFound g.0.base after = subst (λ (z : Course). AreSameFound g.0.base z.found) (c.2 ∙ ap (λ (z : Course). course_after_all t (take m rs) z) x.2) l.2.0 in
     let same = group-found t rs m b g.0 ok (AllByRecursion-IsIn (λ (z : Group). z.reached ≡ b) g.0 gs ends g.1) in
-    let is = found-split t h key tag rs m b x.0 (lists x.0 x.1) in
-    (found_of t h key tag x.0, map-in (found_of t h key tag) x.0 ss x.1,
-    subst (λ z. AreSameFound z (found_of t h key tag x.0)) (sym g.2)
-    (subst (λ z. AreSameFound g.0.found z) (sym is)
-    (same-trans g.0.found (found_after_all t tail g.0.base) (found_after_all t tail after) same (after_all-same law t tail g.0.base after base))))
+    let is = found-split t h key tag rs m b x.0 (lists x.0 x.1) in (
+      found_of t h key tag x.0,
+      map-in (found_of t h key tag) x.0 ss x.1,
+      subst (λ z. AreSameFound z (found_of t h key tag x.0)) (sym g.2)
+          (subst (λ z. AreSameFound g.0.found z) (sym is)
+          (same-trans g.0.found (found_after_all t tail g.0.base) (found_after_all t tail after) same (after_all-same law t tail g.0.base after base))),
+    )
 
 -- the list of an opening at the tag of a sweep
 swept-list : (t : TailoringParts) (h : History) (key : Key) (s : Sweep) (x : Start) → IsSwept t (bounded_requests h key) (boot_starts t h key) (told_starts h key) s → x.tag ≤ s.tag
@@ -210,7 +214,7 @@ swept-basis found same give t h key s basis rising swept is =
     let there = finds-back same t h key s.tag rs s.settled s.listed ss gs lists reached ends swept.alike in
     let back = finds-there same t h key s.tag rs s.settled s.listed ss gs lists reached ends swept.alike in
     let named = λ (l : 1 ≤ length (map (found_of t h key s.tag) ss)).
-        swept-named found t h key s ss swept refl (opened-order t h key s.opened rising) low (as-many (found_of t h key s.tag) ss l) in
+    swept-named found t h key s ss swept refl (opened-order t h key s.opened rising) low (as-many (found_of t h key s.tag) ss l) in
     subst (λ xs. IsBasis t xs basis) (sym os)
     (give t (map (opening_of h key s.tag) ss) (map (found_of t h key s.tag) ss) basis (all-found found t h key s.tag ss)
     (basis-covered (finds gs) (map (found_of t h key s.tag) ss) (unwrap_or (first_after_all (unsure (drop s.settled (take s.listed rs))) s.first) 0) (named_request (map (opening_of h key s.tag) ss)) basis there back named is))

@@ -24,12 +24,7 @@ pub(crate) fn listed_below(requests: &[Bounded<'_>], from: usize, tag: u64) -> u
 }
 
 /// The first place, from one on and before another, of a request that may still be executed at a tag.
-pub(crate) fn settled_before(
-    requests: &[Bounded<'_>],
-    from: usize,
-    to: usize,
-    tag: u64,
-) -> usize
+pub(crate) fn settled_before(requests: &[Bounded<'_>], from: usize, to: usize, tag: u64) -> usize
     requires order { from ≤ to }
     requires within { to ≤ length requests.now }
     ensures from { from ≤ result }

@@ -38,10 +38,7 @@ fn only_tag(alloc: Global, tag: u64) -> Result<Vec<u64>, Memory>
     Ok(tags)
 }
 
-fn only_state(
-    alloc: Global,
-    state: Option<&Structure>,
-) -> Result<Items<Option<Structure>>, Memory>
+fn only_state(alloc: Global, state: Option<&Structure>) -> Result<Items<Option<Structure>>, Memory>
     ensures { IfOk result (λ states. states ≡ option_copied state.entry ∷ []) }
 {
     let mut states = Vec::new(alloc);

@@ -86,7 +86,15 @@ fn settle_group(
     let past = past_tags(alloc, request, tags)?;
     add_past(alloc, past, &group.base, place, groups)?;
     let unsure = unsure_tags(alloc, request, tags)?;
-    add_settled(alloc, tailoring, &as_request(request, false), unsure, &group.base, place, groups)?;
+    add_settled(
+        alloc,
+        tailoring,
+        &as_request(request, false),
+        unsure,
+        &group.base,
+        place,
+        groups,
+    )?;
     let sure = sure_tags(alloc, request, tags)?;
     let certain = as_request(request, request.accepted);
     add_settled(alloc, tailoring, &certain, sure, &group.base, place, groups)

@@ -46,12 +46,7 @@ pub(crate) struct Sweep {
 }
 
 /// The basis of verdicts on the reports of a structure, at each of some rising tags.
-pub fn bases(
-    alloc: Global,
-    history: &History,
-    key: Key,
-    firsts: &[u64],
-) -> Result<Bases, Memory>
+pub fn bases(alloc: Global, history: &History, key: Key, firsts: &[u64]) -> Result<Bases, Memory>
     requires rising { IsStrictlyIncreasing firsts.now }
     ensures bases { IfOk result (AreBases history.now.tailoring history.now.history key firsts.now) }
     ensures formed { IfOk result (All (IsFormedBasis history.now.tailoring)) }
@@ -138,7 +133,14 @@ fn swept(
     let latest = latest_of(starts, sweep.opened, opened, sweep.latest);
     let first = first_of(sweep.first, sweep.opened < opened);
     let first = first_settled(requests, sweep.settled, settled, latest, first);
-    let groups = open(alloc, starts, sweep.opened, opened, sweep.settled, sweep.groups)?;
+    let groups = open(
+        alloc,
+        starts,
+        sweep.opened,
+        opened,
+        sweep.settled,
+        sweep.groups,
+    )?;
     let groups = settle(alloc, tailoring, requests, sweep.settled, settled, groups)?;
     let groups = reach(alloc, tailoring, requests, listed, groups)?;
     Ok(Sweep {

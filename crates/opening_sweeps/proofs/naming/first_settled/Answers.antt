@@ -11,5 +11,5 @@ loop-place-preserved c =
     let r = c.index-requests-place.result in
     let within : i < length rs = omega arith in
     λ h.
-        c.first_with-first.ensures
-        ∙ (ap (λ f. first_after_one (settled c.args.tag r) f) (c.loop-place.invariant h) ∙ first-settled-more c.args.tag rs i r within c.index-requests-place.is)
+    c.first_with-first.ensures
+    ∙ (ap (λ f. first_after_one (settled c.args.tag r) f) (c.loop-place.invariant h) ∙ first-settled-more c.args.tag rs i r within c.index-requests-place.is)

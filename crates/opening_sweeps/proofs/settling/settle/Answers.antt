@@ -29,7 +29,7 @@ returns-clause-alike c =
     let rs = c.args.requests.now in
     let end : c.loop-place.place ≡ c.args.to = omega arith in
     λ ks h.
-        subst (λ (n : ℕ). AreAlike (drop n rs) (map (course_after_all t (take n rs)) ks) (courses c.loop-place.groups.items)) end (c.loop-place.invariant.alike ks h)
+    subst (λ (n : ℕ). AreAlike (drop n rs) (map (course_after_all t (take n rs)) ks) (courses c.loop-place.groups.items)) end (c.loop-place.invariant.alike ks h)
 
 pub returns-clause-reached : goal.returns-clause-reached
 returns-clause-reached c =
@@ -37,4 +37,4 @@ returns-clause-reached c =
     let rs = c.args.requests.now in
     let end : c.loop-place.place ≡ c.args.to = omega arith in
     λ limit le all.
-        subst (λ (n : ℕ). All (IsReached t rs n limit) c.loop-place.groups.items) end (c.loop-place.invariant.reached limit (omega arith) all)
+    subst (λ (n : ℕ). All (IsReached t rs n limit) c.loop-place.groups.items) end (c.loop-place.invariant.reached limit (omega arith) all)

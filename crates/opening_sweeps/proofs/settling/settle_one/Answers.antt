@@ -24,5 +24,5 @@ returns-clause-alike c =
     let r = c.args.request.now in
     let past : length gs ≤ c.loop-group.group-index = omega arith in
     λ rest rising.
-        subst (λ (xs : List Group). AreAlike rest (map (course_after c.args.tailoring.now r) (courses xs)) (courses c.loop-group.later.items))
-        (take_all c.loop-group.group-index gs past) (c.loop-group.invariant.alike rest rising)
+    subst (λ (xs : List Group). AreAlike rest (map (course_after c.args.tailoring.now r) (courses xs)) (courses c.loop-group.later.items))
+    (take_all c.loop-group.group-index gs past) (c.loop-group.invariant.alike rest rising)

@@ -50,10 +50,10 @@ loop-tag-preserved c =
     let same_starts = c.deref-in-loop-tag.ensures.value ∙ c.in_ok-starts.ensures in
     let rising = subst (λ (xs : List Start). HaveRisingStarts xs) (sym same_starts) starts in
     let swept = swept-on t c.tailoring-tailoring.result.now rs c.deref.result.now boot told c.deref-in-loop-tag.result.now s later
-        c.tailoring-tailoring.ensures.tailoring same_requests same_starts
-        (c.in_ok-sweep-2.ensures.swept boot (c.loop-tag.invariant.tag within) rising) c.loop-tag.invariant.swept in
+    c.tailoring-tailoring.ensures.tailoring same_requests same_starts
+    (c.in_ok-sweep-2.ensures.swept boot (c.loop-tag.invariant.tag within) rising) c.loop-tag.invariant.swept in
     let found = subst (λ (xs : List Bounded). IsBasisOf (finds later.groups.items) (unwrap_or (first_after_all (unsure (drop later.settled (take later.listed xs))) later.first) 0) basis)
-        (c.deref-in-loop-tag-2.ensures.value ∙ c.in_ok-requests.ensures) c.in_ok-basis.ensures.basis in
+    (c.deref-in-loop-tag-2.ensures.value ∙ c.in_ok-requests.ensures) c.in_ok-basis.ensures.basis in
     let at = swept-basis c.openings_are_found.ensures c.same_is_found.ensures c.finds_give_bases.ensures t h key later basis starts swept found in
     let here : IsBasis t (openings t h key (get_or firsts i 0)) basis = subst (λ (n : ℕ). IsBasis t (openings t h key n) basis) c.in_ok-sweep-2.ensures.tag at in
     let pushed = sym c.in_ok-push.ensures.pushed in

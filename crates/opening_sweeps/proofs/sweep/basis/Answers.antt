@@ -9,5 +9,5 @@ use Rattle.opening_sweeps.proofs.sweep.basis.Goals as goal
 pub returns-in-Some-clause-formed : goal.returns-in-Some-clause-formed
 returns-in-Some-clause-formed c =
     λ t all.
-        subst (λ (o : Option (List (Option Structure))). IfSome o (All (IsFormedState t))) c.in-Some.is
-        (c.in_ok-states.ensures.formed t (subst (λ (gs : List Group). All (λ (g : Group). IsFormedFound t g.found) gs) (sym c.deref.ensures.value) all))
+    subst (λ (o : Option (List (Option Structure))). IfSome o (All (IsFormedState t))) c.in-Some.is
+    (c.in_ok-states.ensures.formed t (subst (λ (gs : List Group). All (λ (g : Group). IsFormedFound t g.found) gs) (sym c.deref.ensures.value) all))

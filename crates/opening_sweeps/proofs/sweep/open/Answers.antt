@@ -50,5 +50,5 @@ pub returns-clause-alike : goal.returns-clause-alike
 returns-clause-alike c =
     let end : c.loop-place.place ≡ c.args.to = omega arith in
     λ rest.
-        subst (λ (n : ℕ). AreAlike rest (courses c.args.groups.items ++ map course_of (drop c.args.from (take n c.args.starts.now))) (courses c.loop-place.groups.items)) end
-        (c.loop-place.invariant.alike rest)
+    subst (λ (n : ℕ). AreAlike rest (courses c.args.groups.items ++ map course_of (drop c.args.from (take n c.args.starts.now))) (courses c.loop-place.groups.items)) end
+    (c.loop-place.invariant.alike rest)

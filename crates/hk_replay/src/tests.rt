@@ -152,34 +152,6 @@ fn structures_that_may_be_many(rt: HostRuntime) -> Result<(), Fail> {
     Ok(())
 }
 
-/// A request to enable housekeeping structure 1, behind its count.
-const ENABLING: &[u8] = b"\x00\x06\x2f\x03\x05\x00\x01\x01\x01";
-
-/// As many requests as a short session has.
-fn full_session(alloc: Global) -> Result<Vec<u8>, AllocError> {
-    let mut octets = Vec::new(alloc);
-    for count in 0xc000..=0xffffu16 {
-        octets.extend_from_slice(b"S\x00\x00\x00\x0d\x18d")?;
-        octets.extend_from_slice(&count.to_be_bytes())?;
-        octets.extend_from_slice(ENABLING)?;
-    }
-    Ok(octets)
-}
-
-#[test]
-fn a_session_that_is_full(rt: HostRuntime) -> Result<(), Fail> {
-    let alloc = rt.alloc();
-    let requests = full_session(alloc)?;
-    let first = &requests.as_slice()[..18.min(requests.len())];
-    let other = b"S\x00\x00\x00\x0d\x18d\xc0\x00\x00\x06\x2f\x03\x06\x00\x01\x01\x01";
-    let again: &[&[u8]] = &[KNOWN, requests.as_slice(), first];
-    check(&rt, alloc, REPLAY, again, DONE, b"")?;
-    let more: &[&[u8]] = &[KNOWN, requests.as_slice(), other];
-    let full = (4, "record: session full at 294920");
-    check(&rt, alloc, REPLAY, more, full, b"")?;
-    Ok(())
-}
-
 #[test]
 fn other_forms(rt: HostRuntime) -> Result<(), Fail> {
     let table: [(&[&str], &[&[u8]], (u8, &str), &[u8]); 8] = [

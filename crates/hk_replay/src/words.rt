@@ -1,9 +1,12 @@
 //! The words of the command line.
-ghost use Rattle.std.specs.Prelude.{◌≡◌, map};
+ghost use Rattle.std.specs.Prelude.{◌≡◌, ◌≤◌, map, IfSome};
 ghost use Rattle.std.specs.Option.{option_map};
 ghost use Rattle.std.specs.String.{string_bytes};
-ghost use Rattle.hk_replay.specs.Words.{command_of, command_with, tailoring_named as meaning_of};
+ghost use Rattle.hk_replay.specs.Words.{command_of, command_with, generate_with, is_decimal, number_within, tailoring_named as meaning_of};
 ghost use Rattle.hk_replay.specs.Asked.{asked, named};
+
+use crate::rounds::Rounds;
+use message_words::wide_number_in;
 
 /// What a word stands for where a tailoring is named.
 #[derive(Clone, Copy)]
@@ -41,14 +44,19 @@ pub enum Job<'a> {
     Check(TailoringName<'a>),
     /// The whole entries of the record of this name.
     Trim(&'a str),
+    /// The numbers of the session that this seed and so many rounds make.
+    Generate(u32, Rounds),
 }
 
 /// The command that the words are, if they are one of the forms `replay TAILORING RECORD`, `show TAILORING RECORD`,
-/// `encode TAILORING LINES`, `check TAILORING` and `trim RECORD`.
+/// `encode TAILORING LINES`, `generate SEED ROUNDS`, `check TAILORING` and `trim RECORD`.
 pub fn command_in(words: &[String]) -> Option<Command<'_>>
     ensures { option_map asked result ≡ command_of (map string_bytes words.now) }
 {
     match words {
+        [form, seed, rounds] if form.as_str() == "generate" => {
+            generation(seed.as_str(), rounds.as_str())
+        }
         [form, tailoring, name] => {
             command_on(
                 form.as_str(),
@@ -87,5 +95,38 @@ fn tailoring_named(word: &str) -> TailoringName<'_>
         TailoringName::Builtin
     } else {
         TailoringName::File(word)
+    }
+}
+
+/// The command of a seed and a number of rounds.
+fn generation<'a>(seed: &str, rounds: &str) -> Option<Command<'a>>
+    ensures { option_map asked result ≡ generate_with (number_within 0 4294967295 seed.now) (number_within 1 100000 rounds.now) }
+{
+    let seed = number_in_range(0, u32::MAX, seed)?;
+    let count = number_in_range(1, 100_000, rounds)?;
+    Some(Command::Make(Job::Generate(seed, Rounds { count })))
+}
+
+/// The number that a word is, if it is decimal digits without sign or leading zero, and within these bounds.
+fn number_in_range(least: u32, most: u32, word: &str) -> Option<u32>
+    ensures value { result ≡ number_within least most word.now }
+    ensures few { IfSome result (λ number. number ≤ most) }
+{
+    let number = wide_number_in(word);
+    let is_within = u64::from(least) <= number && number <= u64::from(most);
+    if is_decimal(word.as_bytes()) && is_within {
+        return Some(number as u32);
+    }
+    None
+}
+
+/// Whether octets are decimal digits without a sign, and without a zero in front of others.
+fn is_decimal(word: &[u8]) -> bool
+    ensures { result ≡ is_decimal word.now }
+{
+    match word {
+        [] => false,
+        [digit] => digit.is_ascii_digit(),
+        [first, ..] => *first != b'0' && word.iter().all(|octet| octet.is_ascii_digit()),
     }
 }

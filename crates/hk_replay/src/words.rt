@@ -2,7 +2,8 @@
 ghost use Rattle.std.specs.Prelude.{◌≡◌, ◌≤◌, map, IfSome};
 ghost use Rattle.std.specs.Option.{option_map};
 ghost use Rattle.std.specs.String.{string_bytes};
-ghost use Rattle.hk_replay.specs.Words.{command_of, command_with, generate_with, is_decimal, number_within, tailoring_named as meaning_of};
+ghost use Rattle.std.specs.List.{list_all};
+ghost use Rattle.hk_replay.specs.Words.{command_of, command_of_two, command_with, generate_with, has_leading_zero, is_decimal, is_digit, number_within, tailoring_named as meaning_of};
 ghost use Rattle.hk_replay.specs.Asked.{asked, named};
 
 use crate::rounds::Rounds;
@@ -54,16 +55,7 @@ pub fn command_in(words: &[String]) -> Option<Command<'_>>
     ensures { option_map asked result ≡ command_of (map string_bytes words.now) }
 {
     match words {
-        [form, seed, rounds] if form.as_str() == "generate" => {
-            generation(seed.as_str(), rounds.as_str())
-        }
-        [form, tailoring, name] => {
-            command_on(
-                form.as_str(),
-                tailoring_named(tailoring.as_str()),
-                name.as_str(),
-            )
-        }
+        [form, first, second] => command_on(form.as_str(), first.as_str(), second.as_str()),
         [form, tailoring] if form.as_str() == "check" => {
             Some(Command::Make(Job::Check(tailoring_named(tailoring.as_str()))))
         }
@@ -72,8 +64,19 @@ pub fn command_in(words: &[String]) -> Option<Command<'_>>
     }
 }
 
+/// The command of a form with two words.
+#[tactic(auto, unfolding(crate::specs::Words::command_of_two))]
+fn command_on<'a>(form: &str, first: &'a str, second: &'a str) -> Option<Command<'a>>
+    ensures { option_map asked result ≡ command_of_two form.now first.now second.now }
+{
+    if form == "generate" {
+        return generation(first, second);
+    }
+    command_under(form, tailoring_named(first), second)
+}
+
 /// The command of a form with a tailoring and another input.
-fn command_on<'a>(form: &str, tailoring: TailoringName<'a>, name: &'a str) -> Option<Command<'a>>
+fn command_under<'a>(form: &str, tailoring: TailoringName<'a>, name: &'a str) -> Option<Command<'a>>
     ensures { option_map asked result ≡ command_with form.now (named tailoring.entry) name.now }
 {
     if form == "replay" {
@@ -124,9 +127,28 @@ fn number_in_range(least: u32, most: u32, word: &str) -> Option<u32>
 fn is_decimal(word: &[u8]) -> bool
     ensures { result ≡ is_decimal word.now }
 {
+    !word.is_empty() && !has_leading_zero(word) && are_digits(word)
+}
+
+/// Whether a zero stands in front of others.
+fn has_leading_zero(word: &[u8]) -> bool
+    ensures { result ≡ has_leading_zero word.now }
+{
     match word {
-        [] => false,
-        [digit] => digit.is_ascii_digit(),
-        [first, ..] => *first != b'0' && word.iter().all(|octet| octet.is_ascii_digit()),
+        [first, _, ..] => *first == b'0',
+        _ => false,
     }
+}
+
+/// Whether all are decimal digits.
+fn are_digits(word: &[u8]) -> bool
+    ensures { result ≡ list_all is_digit word.now }
+{
+    word.iter().all(|octet| is_digit(*octet))
+}
+
+fn is_digit(octet: u8) -> bool
+    ensures { result ≡ is_digit octet }
+{
+    octet >= 48 && octet <= 57
 }

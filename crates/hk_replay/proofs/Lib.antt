@@ -1,5 +1,6 @@
 pub mod SessionLemmas
 pub mod TakingLemmas
+pub mod GeneratingLemmas
 pub mod HeadlineLemmas
 pub mod ShownLemmas
 pub mod TailoringLemmas

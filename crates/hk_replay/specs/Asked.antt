@@ -3,7 +3,7 @@ use Rattle.hk_replay.specs.Words as words
 use Rattle.hk_replay.specs.declared.words.Command.{Command}
 use Rattle.hk_replay.specs.declared.words.Command.TheVariants.{Make, OnRecord}
 use Rattle.hk_replay.specs.declared.words.Job.{Job}
-use Rattle.hk_replay.specs.declared.words.Job.TheVariants.{Encode, Check, Trim}
+use Rattle.hk_replay.specs.declared.words.Job.TheVariants.{Encode, Check, Trim, Generate}
 use Rattle.hk_replay.specs.declared.words.RecordCommand.{RecordCommand}
 use Rattle.hk_replay.specs.declared.words.RecordCommand.TheVariants.{Replay, Show}
 use Rattle.hk_replay.specs.declared.words.TailoringName.{TailoringName}
@@ -19,6 +19,7 @@ abbrev pub asked_job : Job → words.Command
 asked_job (Encode tailoring name) = words.encode (named tailoring) name.now
 asked_job (Check tailoring) = words.check (named tailoring)
 asked_job (Trim name) = words.trim name.now
+asked_job (Generate seed rounds) = words.generate seed rounds.count
 
 -- what is done with a record
 abbrev pub asked_of_record : RecordCommand → words.RecordCommand

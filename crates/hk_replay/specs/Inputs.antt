@@ -10,8 +10,8 @@ use Rattle.hk_tailoring.specs.declared.fault.TailoringFault.{TailoringFault}
 use Rattle.hk_tailoring.specs.declared.fault.TailoringFault.TheVariants.{TooLong}
 use Rattle.record_commands.specs.Input.{IsEndOf}
 use Rattle.record_commands.specs.Showing.{IsShownAsGiven}
-use Rattle.hk_replay.specs.Words.{TailoringName, standard, in_file, RecordCommand, replay, show, Command, on_record, encode, check, trim}
-use Rattle.hk_replay.specs.Outcomes.{Outcome, written, stopped, record_outcome, encode_outcome, trim_outcome}
+use Rattle.hk_replay.specs.Words.{TailoringName, standard, in_file, RecordCommand, replay, show, Command, on_record, encode, check, trim, generate}
+use Rattle.hk_replay.specs.Outcomes.{Outcome, written, stopped, record_outcome, encode_outcome, trim_outcome, generate_outcome}
 use Rattle.hk_replay.specs.Replay.{EndsWith}
 use Rattle.hk_replay.specs.declared.status.ReplayStatus.{ReplayStatus}
 use Rattle.hk_replay.specs.declared.status.ReplayStatus.TheVariants.{Tailoring}
@@ -74,6 +74,7 @@ Tells files (on_record command tailoring name) outcome = TellsUnder (record_outc
 Tells files (encode tailoring name) outcome = TellsUnder encode_outcome files tailoring name outcome
 Tells files (check tailoring) outcome = (meant : Result TailoringParts TailoringFault) × StandsFor files tailoring meant × (check_outcome meant ≡ outcome)
 Tells files (trim name) outcome = option_map trim_outcome (octets_of files name) ≡ Some outcome
+Tells files (generate seed rounds) outcome = generate_outcome seed rounds ≡ outcome
 
 -- the same of words, if they are a command
 abbrev pub TellsOf : Option (List (List ℕ × List ℕ)) → Option Command → Outcome → Type 0

@@ -1,4 +1,5 @@
 pub mod Faults
+pub mod Generating
 pub mod Outcomes
 pub mod Taking
 pub mod Words

@@ -12,6 +12,7 @@ use Rattle.session_texts.specs.declared.problem.RecordProblem.{RecordProblem}
 use Rattle.record_commands.specs.Trimming.{trimmed_octets}
 use Rattle.record_commands.specs.Showing.{show_text}
 use Rattle.record_commands.specs.Encoding.{encoded}
+use Rattle.hk_replay.specs.Generating.{numbers_text}
 use Rattle.hk_replay.specs.Words.{RecordCommand, replay, show}
 use Rattle.hk_replay.specs.Faults.{status_of_fault}
 use Rattle.hk_replay.specs.declared.status.ReplayStatus.{ReplayStatus}
@@ -68,6 +69,10 @@ made_outcome (Err line) = stopped (Text line)
 -- the outcome of `encode` on a file of lines: a record with known start, with a Sent entry for each line, or the first line that is refused
 abbrev pub encode_outcome : TailoringParts → List ℕ → Outcome
 encode_outcome t file = made_outcome (encoded t file)
+
+-- the outcome of `generate`: the numbers of the session that is made
+abbrev pub generate_outcome : ℕ → ℕ → Outcome
+generate_outcome seed rounds = written (numbers_text seed rounds)
 
 -- what is written of an outcome, if all goes well
 abbrev pub outcome_text : Outcome → List ℕ

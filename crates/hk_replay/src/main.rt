@@ -1,8 +1,10 @@
 //! The ground's decoder of housekeeping reports.
 #![tactic(auto)]
 
+mod generated;
 mod outside;
 mod replay;
+mod rounds;
 mod session;
 mod status;
 mod tailorings;

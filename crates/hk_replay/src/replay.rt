@@ -14,6 +14,7 @@ ghost use Rattle.hk_replay.specs.Replay.{HasOutput, WritesNothing, WritesNothing
 ghost use Rattle.hk_replay.specs.Inputs.{octets_of, StandsFor, told_under, check_outcome, Tells, TellsOf, Replays, NamesRecord, HasGiven, HasGivenFrom, HasGivenUnder, HasGivenOf};
 ghost use Rattle.record_commands.specs.Showing.{IsShownAsGiven};
 
+use crate::generated::generated_text;
 use crate::session::replayed;
 use crate::status::ReplayStatus;
 use crate::tailorings::{check_line, tailoring_of};
@@ -117,6 +118,7 @@ fn job_text<F: Shelf>(alloc: Global, job: Job<'_>, shelf: &mut F) -> Result<Vec<
         Job::Encode(tailoring, name) => encoded_text(alloc, tailoring, name, shelf),
         Job::Check(tailoring) => checked_text(alloc, tailoring, shelf),
         Job::Trim(name) => trimmed_text(alloc, name, shelf),
+        Job::Generate(seed, rounds) => Ok(generated_text(alloc, seed, rounds)?),
     }
 }
 

@@ -154,7 +154,7 @@ fn structures_that_may_be_many(rt: HostRuntime) -> Result<(), Fail> {
 
 #[test]
 fn other_forms(rt: HostRuntime) -> Result<(), Fail> {
-    let table: [(&[&str], &[&[u8]], (u8, &str), &[u8]); 8] = [
+    let table: [(&[&str], &[&[u8]], (u8, &str), &[u8]); 13] = [
         (&[], &[], (2, "usage"), b""),
         (&["replay", "builtin"], &[], (2, "usage"), b""),
         (
@@ -187,6 +187,16 @@ fn other_forms(rt: HostRuntime) -> Result<(), Fail> {
             &[LINE],
             (3, "tailoring: not toml"),
             b"",
+        ),
+        (&["generate", "01", "1"], &[], (2, "usage"), b""),
+        (&["generate", "4294967296", "1"], &[], (2, "usage"), b""),
+        (&["generate", "1", "0"], &[], (2, "usage"), b""),
+        (&["generate", "1", "100001"], &[], (2, "usage"), b""),
+        (
+            &["generate", "1", "11"],
+            &[],
+            DONE,
+            b"sent 1\nreceived 63\nrepeats 0\ndecided 60\nundecidable 0\nother 0\nvalues 440\n",
         ),
     ];
     for (words, parts, status, text) in table {

@@ -35,7 +35,7 @@ use Rattle.definition_intervals.specs.Founds.{ChangesAreFormed, ReportedStatesAr
 use Rattle.definition_intervals.proofs.CandidateLemmas.{change_found}
 
 -- one more member with its number
-enumerate-more : {X : Type 0} (n : ℕ) (xs : List X) (x : X) → enumerate_from n (xs ++ x ∷ []) ≡ enumerate_from n xs ++ (n + length xs, x) ∷ []
+pub enumerate-more : {X : Type 0} (n : ℕ) (xs : List X) (x : X) → enumerate_from n (xs ++ x ∷ []) ≡ enumerate_from n xs ++ (n + length xs, x) ∷ []
 enumerate-more n [] x = ap (λ k. (k, x) ∷ []) (omega arith)
 enumerate-more n (y ∷ xs) x =
     let numbers : n + 1 + length xs ≡ n + length (y ∷ xs) = omega arith in
@@ -56,7 +56,7 @@ member-at [] n l = absurd (omega arith)
 member-at (x ∷ xs) zero l = (x, refl)
 member-at (x ∷ xs) (suc n) l = member-at xs n (omega arith)
 
-take-suc_at : {X : Type 0} (xs : List X) (n : ℕ) (x : X) → slice_get xs n ≡ Some x → take (suc n) xs ≡ take n xs ++ x ∷ []
+pub take-suc_at : {X : Type 0} (xs : List X) (n : ℕ) (x : X) → slice_get xs n ≡ Some x → take (suc n) xs ≡ take n xs ++ x ∷ []
 take-suc_at [] n x e = absurd (let no : None ≡ Some x → ⊥ = λ e. cc in no e)
 take-suc_at (y ∷ xs) zero x e = ap (λ z. z ∷ []) (some_value y x e)
 take-suc_at (y ∷ xs) (suc n) x e = ap (λ l. y ∷ l) (take-suc_at xs n x e)
@@ -178,10 +178,10 @@ changes-formed t key r number change is e =
     change-formed t key r.body f.0 f.1 change is.body f.3 f.4
 
 -- a request of the grammar with few instructions
-abbrev IsGroundedRequest : TailoringParts → Request → Type 0
+abbrev pub IsGroundedRequest : TailoringParts → Request → Type 0
 IsGroundedRequest t r = IsRequest t r × (length (instructions r) ≤ 255)
 
-candidate-formed : (t : TailoringParts) (h : History) (key : Key) (from tag n : ℕ) (s : Sent) (c : Candidate) → IfSome s.request (IsGroundedRequest t)
+pub candidate-formed : (t : TailoringParts) (h : History) (key : Key) (from tag n : ℕ) (s : Sent) (c : Candidate) → IfSome s.request (IsGroundedRequest t)
     → candidate h key from tag (n, s) ≡ Some c → IsFormedCandidate t c
 candidate-formed t h key from tag n s c grounded e = go (is_possible h from tag n) s.request grounded e
   where
@@ -200,7 +200,7 @@ candidate-formed t h key from tag n s c grounded e = go (is_possible h from tag 
     go true None g p = absurd (let no : None ≡ Some c → ⊥ = λ e. cc in no p)
     go true (Some r) g p = found r (change_by key r) g refl p
 
-numbered-IsIn : (n : ℕ) (p : ℕ × Sent) (xs : List Sent) → IsIn p (enumerate_from n xs) → IsIn p.1 xs
+pub numbered-IsIn : (n : ℕ) (p : ℕ × Sent) (xs : List Sent) → IsIn p (enumerate_from n xs) → IsIn p.1 xs
 numbered-IsIn n p [] i = absurd i
 numbered-IsIn n p (x ∷ xs) (inl e) = inl (ap (λ (z : ℕ × Sent). z.1) e)
 numbered-IsIn n p (x ∷ xs) (inr i) = inr (numbered-IsIn (n + 1) p xs i)

@@ -177,7 +177,7 @@ fn is_creation(change: &Change<'_>) -> bool
 }
 
 /// The request with this number, if it may have changed the structure between a tag and that of a report.
-fn candidate<'a>(
+pub fn candidate<'a>(
     history: &'a History,
     key: Key,
     tag: u64,

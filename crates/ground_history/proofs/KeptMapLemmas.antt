@@ -10,7 +10,8 @@ use Rattle.std.specs.Ordering.{nat_cmp, match_ordering, MatchOrdering, is_eq, is
 use Rattle.std.specs.declared.cmp.Ordering.{Ordering}
 use Rattle.std.specs.declared.cmp.Ordering.TheVariants.{Less, Equal, Greater}
 use Rattle.ground_history.specs.Histories.{Kept, tag_of, greatest, insert_kept}
-use Rattle.ground_history.specs.Ground.{IsByTag, packets_of}
+use Rattle.ground_history.specs.Ground.{IsByTag, packets_of, newest_told, tells_structure}
+use Rattle.ground_history.proofs.KeptLemmas.{greatest-insert_kept}
 
 key-is : (a b : ℕ) → is_at (nat_cmp a) b ≡ (b == a)
 key-is a b = go (nat_cmp a b) (ranked a b (nat_cmp a b) refl)
@@ -87,6 +88,23 @@ newest-is tag kept entries next newest now is h none e was max_is =
     let here = newest-insert kept (packets_of entries) in
     let all : greatest (map tag_of (packets_of next)) ≡ greatest (map tag_of (insert_kept kept (packets_of entries))) = ap (λ ks. greatest (map tag_of ks)) list in
     omega (arith, here, all, was, max_is, is)
+
+pub told-is : (tag : ℕ) (kept : Kept) (entries next : List (ℕ × Kept)) (told now : ℕ) (tells : Bool) → tag ≡ tag_of kept → IsByTag entries
+    → find (λ k. tag_of k == tag_of kept) (packets_of entries) ≡ None → next ≡ insert_entry nat_cmp entries tag kept → told ≡ newest_told (packets_of entries)
+    → tells ≡ tells_structure kept.report.body → now ≡ (if tells then max told tag else told) → now ≡ newest_told (packets_of next)
+told-is tag kept entries next told now tells is h none e was does now_is =
+    let list : packets_of next ≡ insert_kept kept (packets_of entries) = ap packets_of e ∙ packets-insert tag kept entries is h none in
+    now_is
+    ∙ (ap (λ b. if b then max told tag else told) does
+    ∙ (go (tells_structure kept.report.body)
+    ∙ sym (ap (λ ks. newest_told ks) list ∙ greatest-insert_kept (λ k. tells_structure k.report.body) kept (packets_of entries))))
+  where
+    others : List Kept
+    others = filter (λ k. tells_structure k.report.body) (packets_of entries)
+
+    go : (b : Bool) → (if b then max told tag else told) ≡ greatest (map tag_of (cond b (kept ∷ others) others))
+    go true = omega (arith, was, is)
+    go false = was
 
 pub kept-found : (tag : ℕ) (kept next : List Kept) (x : Kept) → tag ≡ tag_of x → find (λ k. tag_of k == tag) kept ≡ None → next ≡ insert_kept x kept → find (λ k. tag_of k == tag) next ≡ Some x
 kept-found tag kept next x is none e =

@@ -17,18 +17,18 @@ use Rattle.ground_history.specs.declared.evidence.Evidence.{Evidence}
 use Rattle.ground_history.specs.declared.shown.Shown.{Shown}
 use Rattle.ground_history.proofs.KeptLemmas.{greatest-insert_kept}
 
-abbrev tags : (Kept → Bool) → List Kept → List ℕ
+abbrev pub tags : (Kept → Bool) → List Kept → List ℕ
 tags test ks = map tag_of (filter test ks)
 
 -- one of two tags, where there are both
-abbrev lower : Option ℕ → Option ℕ → Option ℕ
+abbrev pub lower : Option ℕ → Option ℕ → Option ℕ
 lower None b = b
 lower (Some a) b = Some (option_map_or (λ m. min a m) b a)
 
-abbrev tag_if : Bool → Kept → Option ℕ
+abbrev pub tag_if : Bool → Kept → Option ℕ
 tag_if b k = if b then Some (tag_of k) else None
 
-least-step : (test : Kept → Bool) (k : Kept) (ks : List Kept) → least (tags test (k ∷ ks)) ≡ lower (tag_if (test k) k) (least (tags test ks))
+pub least-step : (test : Kept → Bool) (k : Kept) (ks : List Kept) → least (tags test (k ∷ ks)) ≡ lower (tag_if (test k) k) (least (tags test ks))
 least-step test k ks = go (test k)
   where
     go : (b : Bool) → least (map tag_of (cond b (k ∷ filter test ks) (filter test ks))) ≡ lower (tag_if b k) (least (tags test ks))
@@ -43,7 +43,7 @@ lower-swapped (Some a) (Some b) None = let e : min a b ≡ min b a = omega arith
 lower-swapped (Some a) (Some b) (Some c) = let e : min a (min b c) ≡ min b (min a c) = omega arith in ap (λ n. Some n) e
 
 -- where a packet is put among the kept ones makes no difference to the least tag
-least-insert_kept : (test : Kept → Bool) (k : Kept) (ks : List Kept) → least (tags test (insert_kept k ks)) ≡ least (tags test (k ∷ ks))
+pub least-insert_kept : (test : Kept → Bool) (k : Kept) (ks : List Kept) → least (tags test (insert_kept k ks)) ≡ least (tags test (k ∷ ks))
 least-insert_kept test k [] = refl
 least-insert_kept test k (j ∷ js) = go (nat_lt (tag_of k) (tag_of j)) (least-insert_kept test k js)
   where
@@ -63,7 +63,7 @@ or-swapped false true c = refl
 or-swapped false false c = refl
 
 -- nor to whether one passes
-any-insert_kept : (test : Kept → Bool) (k : Kept) (ks : List Kept) → list_any test (insert_kept k ks) ≡ (test k || list_any test ks)
+pub any-insert_kept : (test : Kept → Bool) (k : Kept) (ks : List Kept) → list_any test (insert_kept k ks) ≡ (test k || list_any test ks)
 any-insert_kept test k [] = refl
 any-insert_kept test k (j ∷ js) = go (nat_lt (tag_of k) (tag_of j)) (any-insert_kept test k js)
   where
@@ -82,13 +82,13 @@ greatest-step test k ks = go (test k)
 -- ---- one more verification report
 
 -- what one more report on a request is
-record IsReport (x : Kept) (tag request : ℕ) (report : Verification) : Type 0 where
+pub record IsReport (x : Kept) (tag request : ℕ) (report : Verification) : Type 0 where
   pub number : x.number ≡ Some request
   pub body : x.report.body ≡ Verify report
   pub stamped : tag_of x ≡ tag
 
 -- it verifies where its report and its number pass
-verifies-is : (x : Kept) (tag request : ℕ) (report : Verification) → IsReport x tag request report → (test : Verification → Bool) (numbers : ℕ → Bool)
+pub verifies-is : (x : Kept) (tag request : ℕ) (report : Verification) → IsReport x tag request report → (test : Verification → Bool) (numbers : ℕ → Bool)
     → verifies test numbers x ≡ (numbers request && test report)
 verifies-is x tag request report is test numbers =
     ap (λ o. option_map_or numbers o false && passes test x.report.body) is.number ∙ ap (λ b. numbers request && passes test b) is.body
@@ -130,14 +130,14 @@ after-by request k (v.NotRouted id cause) = grind (arith, nat_tests)
 either-bools : (a b c d : Bool) → a ≡ b → c ≡ d → (a || c) ≡ (b || d)
 either-bools a b c d e f = rw (e, f) refl
 
-comes-before-is : (x : Kept) (tag request k : ℕ) (report : Verification) → IsReport x tag request report → comes_before k x ≡ option_map_or (λ p. nat_le p k) (place_before request report) false
+pub comes-before-is : (x : Kept) (tag request k : ℕ) (report : Verification) → IsReport x tag request report → comes_before k x ≡ option_map_or (λ p. nat_le p k) (place_before request report) false
 comes-before-is x tag request k report is =
     either-bools _ _ _ _
     (either-bools _ _ _ _ (verifies-is x tag request report is is_acceptance (λ j. nat_le j k)) (verifies-is x tag request report is is_start (λ j. nat_le j k)))
     (verifies-is x tag request report is is_completion (λ j. nat_lt j k))
     ∙ before-by request k report
 
-comes-after-is : (x : Kept) (tag request k : ℕ) (report : Verification) → IsReport x tag request report → comes_after k x ≡ option_map_or (λ p. nat_le k p) (place_after request report) false
+pub comes-after-is : (x : Kept) (tag request k : ℕ) (report : Verification) → IsReport x tag request report → comes_after k x ≡ option_map_or (λ p. nat_le k p) (place_after request report) false
 comes-after-is x tag request k report is =
     either-bools _ _ _ _ (verifies-is x tag request report is is_completion (λ j. nat_le k j)) (verifies-is x tag request report is is_start (λ j. nat_lt k j))
     ∙ after-by request k report
@@ -322,11 +322,11 @@ record IsQuiet (x : Kept) : Type 0 where
   pub verifies : (test : Verification → Bool) (numbers : ℕ → Bool) → verifies test numbers x ≡ false
   pub begins : (k : ℕ) → begins k x ≡ false
 
-or-false : (b c : Bool) → b ≡ false → (b || c) ≡ c
+pub or-false : (b c : Bool) → b ≡ false → (b || c) ≡ c
 or-false true c e = cc
 or-false false c e = refl
 
-nothing : (b : Bool) → (b && false) ≡ false
+pub nothing : (b : Bool) → (b && false) ≡ false
 nothing true = refl
 nothing false = refl
 
@@ -372,7 +372,7 @@ abbrev pub IsOther : ReportBody → Type 0
 IsOther (Verify report) = ⊥
 IsOther _ = Unit {0}
 
-other-passes : (body : ReportBody) → IsOther body → (test : Verification → Bool) → passes test body ≡ false
+pub other-passes : (body : ReportBody) → IsOther body → (test : Verification → Bool) → passes test body ≡ false
 other-passes (Verify report) o test = absurd o
 other-passes (Hk report) o test = refl
 other-passes (Stat report) o test = refl

@@ -1,5 +1,5 @@
 -- What contracts see of a history, and how its calls answer.
-use Rattle.std.specs.Prelude.{◌≡◌, ℕ, ◌+◌, ◌-◌, ◌%◌, ◌^◌, ◌<◌, ◌≤◌, List, [], ◌∷◌, ◌++◌, take, drop, length, map, ⊤, Bool, not, ◌&&◌, ◌||◌, ◌==◌, nat_lt, Option, Some, None, IfSome, Result, Ok, Err, if◌then◌else◌}
+use Rattle.std.specs.Prelude.{◌≡◌, ℕ, ◌+◌, ◌-◌, ◌%◌, ◌^◌, ◌<◌, ◌≤◌, List, [], ◌∷◌, ◌++◌, filter, take, drop, length, map, ⊤, Bool, true, false, not, ◌&&◌, ◌||◌, ◌==◌, nat_lt, Option, Some, None, IfSome, Result, Ok, Err, if◌then◌else◌}
 use Rattle.std.specs.List.{AllByRecursion}
 use Rattle.hk_base.specs.Fields.{number_of}
 use Rattle.hk_base.specs.declared.types.RequestId.{RequestId}
@@ -8,7 +8,7 @@ use Rattle.pus_packet.specs.declared.header.TcHeader.{TcHeader}
 use Rattle.pus_messages.specs.Messages.{protocol}
 use Rattle.pus_messages.specs.Instructions.{instructions}
 use Rattle.pus_messages.specs.Spelling.{IsRequest, IsReport, HasRoom}
-use Rattle.ground_history.specs.Histories.{Sent, Kept, History, is_own, is_known_begun, sent_short, sent_long, tag_of, newest_tag, history_with_got, history_with_report, number_of_body, stray_id}
+use Rattle.ground_history.specs.Histories.{Sent, Kept, History, greatest, is_own, is_known_begun, sent_short, sent_long, tag_of, newest_tag, history_with_got, history_with_report, number_of_body, stray_id}
 use Rattle.hk_base.specs.declared.types.Memory.{Memory}
 use Rattle.st03_grammar.specs.declared.bodies.Report03.TheVariants as told
 use Rattle.pus_messages.specs.declared.message.Report.{Report}
@@ -128,3 +128,12 @@ with_payload around place payload = take place around ++ (payload ++ drop place 
 -- octets have a payload with so many octets behind it
 abbrev pub HasPayload : ℕ → List ℕ → List ℕ → Type 0
 HasPayload behind payload octets = (front : List ℕ) × (check : List ℕ) × (octets ≡ front ++ (payload ++ check)) × (length check ≡ behind)
+
+-- whether a body is that of a report of a structure
+abbrev pub tells_structure : ReportBody → Bool
+tells_structure (tell.Hk (told.Structure key structure)) = true
+tells_structure _ = false
+
+-- the greatest tag of a report of a structure, or 0
+abbrev pub newest_told : List Kept → ℕ
+newest_told ks = greatest (map tag_of (filter (λ k. tells_structure k.report.body) ks))

@@ -7,7 +7,7 @@ ghost use Rattle.ground_history.specs.Histories.{tag_of, new_history, sent_answe
 ghost use Rattle.ground_history.specs.Evidence as evidence;
 ghost use Rattle.pus_packet.specs.Packets.{checksum_octets};
 ghost use Rattle.pus_messages.specs.Spelling.{IsReportPacket, HasRoom};
-ghost use Rattle.ground_history.specs.Ground.{IsGrounded, HasNumber, IsAnswer, IsCountOf, with_history, is_room_for, got_result, report_result, own_count, answer_by_count};
+ghost use Rattle.ground_history.specs.Ground.{IsGrounded, HasNumber, IsAnswer, IsCountOf, with_history, is_room_for, got_result, report_result, own_count, answer_by_count, newest_told};
 
 use crate::answer::{GotKind, Outcome, SentFault};
 use crate::evidence::Evidence;
@@ -207,6 +207,13 @@ impl History {
         self.kept.all()
     }
 
+    /// The greatest tag of a kept report of a structure, or 0.
+    pub fn newest_told(&self) -> u64
+        ensures { result ≡ newest_told self.now.history.kept }
+    {
+        self.kept.told()
+    }
+
     /// The kept packet with this number, from 0 in the order of tags. It takes time with the number: see `packets`.
     pub fn report(&self, number: u64) -> Option<&Report>
         ensures { option_copied result ≡ option_map (λ k. k.report) (slice_get self.now.history.kept number) }
@@ -230,6 +237,13 @@ impl History {
     }
 
     /// The first kept packet whose tag isn't below this one, in logarithmic time.
+    pub fn kept_from(&self, tag: u64) -> Option<&KeptPacket>
+        ensures { option_copied result ≡ find (λ k. nat_le tag (tag_of k)) self.now.history.kept }
+    {
+        self.kept.from_tag(tag)
+    }
+
+    /// The report of the first kept packet whose tag isn't below this one, in logarithmic time.
     pub fn report_from(&self, tag: u64) -> Option<&Report>
         ensures { option_copied result ≡ option_map (λ k. k.report) (find (λ k. nat_le tag (tag_of k)) self.now.history.kept) }
     {

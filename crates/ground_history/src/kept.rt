@@ -1,6 +1,6 @@
-ghost use Rattle.std.specs.Prelude.{◌≡◌, ◌+◌, ◌≤◌, ◌++◌, ◌∷◌, ℕ, List, [], None, Some, false, find, nat_le, ◌==◌, IfOk, OnOk, OnErr, bytes_eq, drop, length, map, slice_get, take};
+ghost use Rattle.std.specs.Prelude.{◌≡◌, ◌+◌, ◌≤◌, ◌++◌, ◌∷◌, ℕ, List, [], None, Some, false, find, nat_le, ◌==◌, IfOk, OnOk, OnErr, bytes_eq, drop, length, map, max, slice_get, take, if◌then◌else◌};
 ghost use Rattle.std.specs.Option.{option_copied, option_map_or};
-ghost use Rattle.ground_history.specs.Ground.{HasPayload, payload_of};
+ghost use Rattle.ground_history.specs.Ground.{HasPayload, payload_of, newest_told, tells_structure};
 ghost use Rattle.ground_history.specs.Histories.{tag_of, greatest, insert_kept};
 ghost use Rattle.ground_history.specs.Histories as histories;
 
@@ -135,18 +135,20 @@ pub(crate) struct KeptPackets {
     packets: BTreeMap<u64, KeptPacket>,
     /// The greatest tag, or 0.
     newest: u64,
+    /// The greatest tag of a structure report, or 0.
+    told: u64,
 }
 
 impl Model for KeptPackets {
     ghost use Rattle.std.specs.Prelude.{◌≡◌, List, map};
     ghost use Rattle.ground_history.specs.Histories.{Kept, tag_of, greatest};
-    ghost use Rattle.ground_history.specs.Ground.{IsByTag, packets_of};
+    ghost use Rattle.ground_history.specs.Ground.{IsByTag, packets_of, newest_told};
 
     ghost Value = { List Kept };
 
     ghost view = { λ kept. packets_of kept.packets.entries };
 
-    ghost invariant = { λ kept. IsByTag kept.packets.entries × (kept.newest ≡ greatest (map tag_of (packets_of kept.packets.entries))) };
+    ghost invariant = { λ kept. IsByTag kept.packets.entries × (kept.newest ≡ greatest (map tag_of (packets_of kept.packets.entries))) × (kept.told ≡ newest_told (packets_of kept.packets.entries)) };
 }
 
 impl KeptPackets {
@@ -156,6 +158,7 @@ impl KeptPackets {
         KeptPackets {
             packets: BTreeMap::new(alloc),
             newest: 0,
+            told: 0,
         }
     }
 
@@ -171,6 +174,13 @@ impl KeptPackets {
         ensures { result ≡ greatest (map tag_of self.now) }
     {
         self.newest
+    }
+
+    /// The greatest tag of a structure report, or 0.
+    pub(crate) fn told(&self) -> u64
+        ensures { result ≡ newest_told self.now }
+    {
+        self.told
     }
 
     /// The packet with this tag.
@@ -212,8 +222,24 @@ impl KeptPackets {
         ensures same { OnErr result (self.new ≡ self.old) }
     {
         let tag = kept.tag();
+        let tells = tells(&kept.report().body);
         self.packets.insert(tag, kept)?;
         self.newest = self.newest.max(tag);
+        self.told = newer(tells, self.told, tag);
         Ok(())
     }
+}
+
+/// Whether a body is that of a report of a structure.
+fn tells(body: &ReportBody) -> bool
+    ensures { result ≡ tells_structure body.now }
+{
+    matches!(body, ReportBody::Hk(Report03::Structure(_, _)))
+}
+
+/// The greater of two tags, where the second counts.
+fn newer(counts: bool, newest: u64, tag: u64) -> u64
+    ensures { result ≡ (if counts then max newest tag else newest) }
+{
+    if counts { newest.max(tag) } else { newest }
 }

@@ -29,7 +29,7 @@ use Rattle.opening_sweeps.proofs.SettleLemmas.{at-in, in-at}
 use Rattle.opening_sweeps.proofs.ListLemmas.{candidates-bounded, list-parts, opening_of, found_of, all-found, openings-opened, last_start, last-tag, AreInOrder, named-last, opened-order, opened-below}
 
 -- each find of one list is that of some of another
-abbrev AreCovered : List (Option (List (Option Structure))) → List (Option (List (Option Structure))) → Type 0
+abbrev pub AreCovered : List (Option (List (Option Structure))) → List (Option (List (Option Structure))) → Type 0
 AreCovered fs gs = (f : Option (List (Option Structure))) → IsIn f fs → (g : Option (List (Option Structure))) × IsIn g gs × AreSameFound f g
 
 crowd-same : (f g : Option (List (Option Structure))) → AreSameFound f g → is_crowd f ≡ is_crowd g
@@ -68,7 +68,7 @@ some-covered [] gs cover l = absurd (omega arith)
 some-covered (f ∷ fs) [] cover l = absurd (cover f (inl refl)).1
 some-covered (f ∷ fs) (g ∷ gs) cover l = omega arith
 
-basis-covered : (fs gs : List (Option (List (Option Structure)))) (n named : ℕ) (basis : Basis) → AreCovered fs gs → AreCovered gs fs → (1 ≤ length gs → named ≡ n)
+pub basis-covered : (fs gs : List (Option (List (Option Structure)))) (n named : ℕ) (basis : Basis) → AreCovered fs gs → AreCovered gs fs → (1 ≤ length gs → named ≡ n)
     → IsBasisOf fs n basis → IsBasisOf gs named basis
 basis-covered fs gs n named NoOpening there back name is = none-covered gs fs back is
 basis-covered fs gs n named (Crowded k) there back name is =
@@ -90,12 +90,12 @@ found-split t h key tag rs m b x e =
     ap (λ cs. found_after_all t cs (Some (x.state ∷ []))) e ∙ after_all-append t (filter_map (settled x.tag) (take m rs)) (unsure (drop m (take b rs))) (Some (x.state ∷ []))
 
 -- members of mapped lists
-in-map : {X Y : Type 0} (f : X → Y) (y : Y) (xs : List X) → IsIn y (map f xs) → (x : X) × IsIn x xs × (y ≡ f x)
+pub in-map : {X Y : Type 0} (f : X → Y) (y : Y) (xs : List X) → IsIn y (map f xs) → (x : X) × IsIn x xs × (y ≡ f x)
 in-map f y [] i = absurd i
 in-map f y (x ∷ xs) (inl e) = (x, inl refl, e)
 in-map f y (x ∷ xs) (inr i) = let r = in-map f y xs i in (r.0, inr r.1, r.2)
 
-map-in : {X Y : Type 0} (f : X → Y) (x : X) (xs : List X) → IsIn x xs → IsIn (f x) (map f xs)
+pub map-in : {X Y : Type 0} (f : X → Y) (x : X) (xs : List X) → IsIn x xs → IsIn (f x) (map f xs)
 map-in f x [] i = absurd i
 map-in f x (y ∷ xs) (inl e) = inl (ap f e)
 map-in f x (y ∷ xs) (inr i) = inr (map-in f x xs i)

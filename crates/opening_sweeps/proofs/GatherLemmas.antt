@@ -205,7 +205,7 @@ starts-formed law g key grounded = All-from_recursion (IsFormedStart g.tailoring
 abbrev pub kept_from : ℕ → List Kept → List Kept
 kept_from from ks = filter (λ k. nat_le from (tag_of k)) ks
 
-all-kept : (from : ℕ) (ks : List Kept) → AllByRecursion (λ k. from ≤ tag_of k) ks → kept_from from ks ≡ ks
+pub all-kept : (from : ℕ) (ks : List Kept) → AllByRecursion (λ k. from ≤ tag_of k) ks → kept_from from ks ≡ ks
 all-kept from [] h = refl
 all-kept from (k ∷ ks) h = ap (λ b. if b then k ∷ kept_from from ks else kept_from from ks) (le-leb from (tag_of k) h.0) ∙ ap (λ l. k ∷ l) (all-kept from ks h.1)
 

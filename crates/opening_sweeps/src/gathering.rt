@@ -46,7 +46,7 @@ pub(crate) fn requests_rise()
 }
 
 /// States were told in the order of tags, and are valid.
-pub(crate) fn starts_rise()
+pub fn starts_rise()
     ensures rising { (g : Ground) (key : declared.Key) → IsGrounded g → HaveRisingStarts (requests.told_starts g.history key) }
     ensures formed { (g : Ground) (key : declared.Key) → IsGrounded g → All (IsFormedStart g.tailoring) (requests.told_starts g.history key) }
 {
@@ -96,7 +96,7 @@ pub(crate) fn told_starts<'a>(
 }
 
 /// The state that a report tells of a structure.
-fn told_start(key: Key, report: &Report) -> Option<Start<'_>>
+pub fn told_start(key: Key, report: &Report) -> Option<Start<'_>>
     ensures { (kept : Kept) → kept.report ≡ report.now → result ≡ requests.told_start key kept }
 {
     let structure = reported_structure(key, &report.body)?;
@@ -124,7 +124,7 @@ fn is_same(a: Key, b: Key) -> bool
 }
 
 /// The boot state at tag 0, where the start is known.
-pub(crate) fn boot_start<'a>(history: &'a History, key: Key) -> Option<Start<'a>>
+pub fn boot_start<'a>(history: &'a History, key: Key) -> Option<Start<'a>>
     ensures start { option_to_list result ≡ requests.boot_starts history.now.tailoring history.now.history key }
     ensures formed { IfSome result (IsFormedStart history.now.tailoring) }
 {

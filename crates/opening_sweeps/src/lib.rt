@@ -13,4 +13,7 @@ mod start;
 mod sweep;
 mod tail;
 
+pub use gathering::{boot_start, starts_rise, told_start};
+pub use naming::first_after;
+pub use start::Start;
 pub use sweep::bases;

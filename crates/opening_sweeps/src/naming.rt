@@ -42,7 +42,8 @@ fn first_with(request: &Bounded<'_>, tag: u64, first: Option<u64>) -> Option<u64
     first_after(&as_request(request, certain), first)
 }
 
-fn first_after(request: &Candidate<'_>, first: Option<u64>) -> Option<u64>
+/// The first open change after one more request of an opening.
+pub fn first_after(request: &Candidate<'_>, first: Option<u64>) -> Option<u64>
     ensures { result ≡ founds.first_after request.now first }
 {
     let own = if is_open(request) {

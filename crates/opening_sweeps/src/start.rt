@@ -3,7 +3,7 @@ use std::marker::Model;
 
 /// A state that a structure had at a tag.
 #[derive(Debug, Drop)]
-pub(crate) struct Start<'a> {
+pub struct Start<'a> {
     pub tag: u64,
     pub state: Option<&'a Structure>,
 }

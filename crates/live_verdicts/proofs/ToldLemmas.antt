@@ -1,19 +1,14 @@
 -- The states that were told before a tag, and from it on.
-use Rattle.std.proofs.Common.{arith, ◌≡◌, ℕ, ◌<◌, ◌≤◌, refl, sym, ◌∙◌, ap, subst, List, [], ◌∷◌, ◌++◌, Bool, true, false, inl, inr, Option, Some, None, map, cond}
-use Rattle.std.specs.Prelude.{filter, filter_map, nat_lt, nat_le, option_map, if◌then◌else◌}
+use Rattle.std.proofs.Common.{arith, ◌≡◌, ℕ, ◌<◌, ◌≤◌, refl, sym, ◌∙◌, ap, List, [], ◌∷◌, ◌++◌, Bool, true, false, Option, Some, None}
+use Rattle.std.specs.Prelude.{filter, filter_map, nat_lt, nat_le, if◌then◌else◌}
 use Rattle.std.specs.List.{cons_option, AllByRecursion}
-use Rattle.std.proofs.lemmas.Bool.{leb-true, leb-false, lt-ltb, le-ltb, both_ways}
+use Rattle.std.proofs.lemmas.Bool.{leb-true, leb-false, lt-ltb, le-ltb}
 use Rattle.hk_base.specs.declared.types.Key.{Key}
-use Rattle.hk_base.specs.declared.types.Structure.{Structure}
 use Rattle.hk_base.proofs.Membership.{IsIn, IsIn-filter, AllByRecursion-IsIn}
-use Rattle.st03_grammar.specs.declared.bodies.Report03.TheVariants as hk
-use Rattle.pus_messages.specs.declared.message.ReportBody.{ReportBody}
-use Rattle.pus_messages.specs.declared.message.ReportBody.TheVariants as tell
-use Rattle.ground_history.specs.Histories.{Kept, History, tag_of, greatest}
+use Rattle.ground_history.specs.Histories.{Kept, History, tag_of}
 use Rattle.ground_history.specs.Ground.{HaveRisingTags, newest_told, tells_structure}
-use Rattle.definition_intervals.specs.Openings.{reported_structure}
 use Rattle.opening_sweeps.specs.Requests.{Start, told_start}
-use Rattle.opening_sweeps.proofs.GatherLemmas.{all-kept}
+use Rattle.opening_sweeps.proofs.GatherLemmas.{all-kept, untold, newest-above}
 use Rattle.live_verdicts.specs.Changes.{told_start_below, told_below}
 use Rattle.live_verdicts.specs.Marks.{told_between}
 use Rattle.live_verdicts.proofs.SameLemmas.{filter_map-none}
@@ -70,33 +65,6 @@ pub told-end : (key : Key) (from tag : ℕ) (ks : List Kept) → tag ≤ from �
 told-end key from tag ks le =
     filter_map-none (told_start_below key tag) (from_tag from ks)
     (λ x i. let member = IsIn-filter (λ k. nat_le from (tag_of k)) x ks i in let at = leb-true from (tag_of x) member.1 in below-none key tag x (omega (arith, le, at)))
-
-untold : (key : Key) (k : Kept) → tells_structure k.report.body ≡ false → told_start key k ≡ None
-untold key k e = body-untold key k.report.body e
-  where
-    start : Option Structure → Option Start
-    start o = option_map (λ s. record { tag = tag_of k; state = Some s }) o
-
-    body-untold : (key : Key) (body : ReportBody) → tells_structure body ≡ false → start (reported_structure key body) ≡ None
-    body-untold key (tell.Verify v) e = refl
-    body-untold key (tell.Stat r) e = refl
-    body-untold key (tell.Par r) e = refl
-    body-untold key (tell.Hk (hk.Structure named s)) e = absurd (both_ways true e refl)
-    body-untold key (tell.Hk (hk.Values named payload)) e = refl
-    body-untold key (tell.Hk (hk.Periodic kind rows)) e = refl
-
-newest-above : (k : Kept) (ks : List Kept) → IsIn k ks → tells_structure k.report.body ≡ true → tag_of k ≤ newest_told ks
-newest-above k [] i e = absurd i
-newest-above k (x ∷ xs) i e = go (tells_structure x.report.body) refl i (λ j. newest-above k xs j e)
-  where
-    others : List Kept
-    others = filter (λ y. tells_structure y.report.body) xs
-
-    go : (b : Bool) → tells_structure x.report.body ≡ b → IsIn k (x ∷ xs) → (IsIn k xs → tag_of k ≤ newest_told xs) → tag_of k ≤ greatest (map tag_of (cond b (x ∷ others) others))
-    go true p (inl same) ih = let at : tag_of k ≡ tag_of x = ap tag_of same in omega (arith, at)
-    go true p (inr j) ih = let rest = ih j in omega (arith, rest)
-    go false p (inl same) ih = absurd (both_ways (tells_structure x.report.body) p (subst (λ (y : Kept). tells_structure y.report.body ≡ true) same e))
-    go false p (inr j) ih = ih j
 
 -- nor behind the last report of a structure
 pub told-after : (key : Key) (from tag : ℕ) (ks : List Kept) → newest_told ks < from → filter_map (told_start_below key tag) (from_tag from ks) ≡ []

@@ -1,8 +1,8 @@
 -- The requests and states of a structure, one after the other.
-use Rattle.std.proofs.Common.{arith, ◌≡◌, ℕ, zero, suc, ◌+◌, ◌^◌, ◌<◌, ◌≤◌, refl, sym, ◌∙◌, ap, subst, List, [], ◌∷◌, ◌++◌, Bool, true, false, length, map, take, add-one, Option, Some, None, IfSome, option_to_list, append-nil, append_assoc, inl, inr}
+use Rattle.std.proofs.Common.{arith, ◌≡◌, ℕ, zero, suc, ◌+◌, ◌^◌, ◌<◌, ◌≤◌, refl, sym, ◌∙◌, ap, subst, List, [], ◌∷◌, ◌++◌, Bool, true, false, length, map, take, add-one, Option, Some, None, IfSome, option_to_list, append-nil, append_assoc, inl, inr, cond}
 use Rattle.std.specs.Prelude.{filter, filter_map, find, slice_get, option_map, option_and_then, nat_le, IsSomeAnd, if◌then◌else◌}
 use Rattle.std.specs.List.{enumerate_from, cons_option, All, AllByRecursion}
-use Rattle.std.proofs.lemmas.Bool.{leb-true, leb-false, le-leb, lt-leb}
+use Rattle.std.proofs.lemmas.Bool.{leb-true, leb-false, le-leb, lt-leb, both_ways}
 use Rattle.std.proofs.lemmas.List.{take_all}
 use Rattle.std.proofs.lemmas.List.Elements.{filter_map-append, All-from_recursion}
 use Rattle.std.proofs.Math.Nat.{pow-le-pow_right}
@@ -10,17 +10,20 @@ use Rattle.hk_base.specs.TailoringParts.{TailoringParts}
 use Rattle.hk_base.specs.Fit.{IsFit, IsFitWidths}
 use Rattle.hk_base.specs.declared.types.Key.{Key}
 use Rattle.hk_base.specs.declared.types.Structure.{Structure}
-use Rattle.hk_base.proofs.Membership.{some_value, IsIn, IsIn-filter_map, IsIn-AllByRecursion, AllByRecursion-IsIn}
+use Rattle.hk_base.proofs.Membership.{some_value, IsIn, IsIn-filter, IsIn-filter_map, IsIn-AllByRecursion, AllByRecursion-IsIn}
 use Rattle.st03_grammar.specs.Instructions.{StructureChange}
 use Rattle.pus_messages.specs.Changes.{change_by}
 use Rattle.pus_messages.specs.Instructions.{instructions}
 use Rattle.pus_messages.specs.Spelling.{IsRequest}
 use Rattle.pus_messages.specs.declared.message.Request.{Request}
 use Rattle.pus_messages.specs.declared.message.Report.{Report}
+use Rattle.pus_messages.specs.declared.message.ReportBody.{ReportBody}
+use Rattle.pus_messages.specs.declared.message.ReportBody.TheVariants as tell
+use Rattle.st03_grammar.specs.declared.bodies.Report03.TheVariants as hk
 use Rattle.report_structures.specs.Changes.{IsGrammarChange, IsFormedState}
-use Rattle.ground_history.specs.Histories.{Sent, Kept, History, tag_of}
+use Rattle.ground_history.specs.Histories.{Sent, Kept, History, tag_of, greatest}
 use Rattle.ground_history.specs.Evidence.{low, high, is_accepted, is_barred, outcome}
-use Rattle.ground_history.specs.Ground.{Ground, IsGrammarSent, IsGrammarKept, IsGrounded, HaveRisingTags}
+use Rattle.ground_history.specs.Ground.{Ground, IsGrammarSent, IsGrammarKept, IsGrounded, HaveRisingTags, newest_told, tells_structure}
 use Rattle.ground_history.specs.Rising.{AreNoHigher, BoundsRise}
 use Rattle.definition_intervals.specs.Openings.{reported_structure}
 use Rattle.definition_intervals.specs.Founds.{ChangesAreFormed, ReportedStatesAreFormed}
@@ -302,3 +305,47 @@ told-more key ks from r starts after all o n told is h =
 pub no-report : (o : Option Kept) → option_map (λ (k : Kept). k.report) o ≡ None → o ≡ None
 no-report None e = refl
 no-report (Some k) e = absurd (let no : Some k.report ≡ None → ⊥ = λ p. cc in no e)
+
+-- ---- where nothing more is told
+
+pub untold : (key : Key) (k : Kept) → tells_structure k.report.body ≡ false → told_start key k ≡ None
+untold key k e = body-untold key k.report.body e
+  where
+    start : Option Structure → Option Start
+    start o = option_map (λ s. record { tag = tag_of k; state = Some s }) o
+
+    body-untold : (key : Key) (body : ReportBody) → tells_structure body ≡ false → start (reported_structure key body) ≡ None
+    body-untold key (tell.Verify v) e = refl
+    body-untold key (tell.Stat r) e = refl
+    body-untold key (tell.Par r) e = refl
+    body-untold key (tell.Hk (hk.Structure named s)) e = absurd (both_ways true e refl)
+    body-untold key (tell.Hk (hk.Values named payload)) e = refl
+    body-untold key (tell.Hk (hk.Periodic kind rows)) e = refl
+
+pub newest-above : (k : Kept) (ks : List Kept) → IsIn k ks → tells_structure k.report.body ≡ true → tag_of k ≤ newest_told ks
+newest-above k [] i e = absurd i
+newest-above k (x ∷ xs) i e = go (tells_structure x.report.body) refl i (λ j. newest-above k xs j e)
+  where
+    others : List Kept
+    others = filter (λ y. tells_structure y.report.body) xs
+
+    go : (b : Bool) → tells_structure x.report.body ≡ b → IsIn k (x ∷ xs) → (IsIn k xs → tag_of k ≤ newest_told xs) → tag_of k ≤ greatest (map tag_of (cond b (x ∷ others) others))
+    go true p (inl same) ih = let at : tag_of k ≡ tag_of x = ap tag_of same in omega (arith, at)
+    go true p (inr j) ih = let rest = ih j in omega (arith, rest)
+    go false p (inl same) ih = absurd (both_ways (tells_structure x.report.body) p (subst (λ (y : Kept). tells_structure y.report.body ≡ true) same e))
+    go false p (inr j) ih = ih j
+
+-- nothing is told behind the last report of a structure
+pub told-last : (key : Key) (from : ℕ) (ks : List Kept) → newest_told ks < from → filter_map (told_start key) (kept_from from ks) ≡ []
+told-last key from ks lt = none-of (kept_from from ks) (λ x i. at x (IsIn-filter (λ k. nat_le from (tag_of k)) x ks i))
+  where
+    at : (x : Kept) → IsIn x ks × (nat_le from (tag_of x) ≡ true) → told_start key x ≡ None
+    at x m = by (tells_structure x.report.body) refl
+      where
+        by : (b : Bool) → tells_structure x.report.body ≡ b → told_start key x ≡ None
+        by true e = let high = newest-above x ks m.0 e in let low = leb-true from (tag_of x) m.1 in absurd (omega (arith, low, lt, high))
+        by false e = untold key x e
+
+    none-of : (xs : List Kept) → ((x : Kept) → IsIn x xs → told_start key x ≡ None) → filter_map (told_start key) xs ≡ []
+    none-of [] h = refl
+    none-of (x ∷ xs) h = ap (λ (o : Option Start). cons_option o (filter_map (told_start key) xs)) (h x (inl refl)) ∙ none-of xs (λ y i. h y (inr i))

@@ -84,9 +84,13 @@ pub(crate) fn told_starts<'a>(
     ensures { IfOk result (λ found. found.items ≡ requests.told_starts history.now.history key) }
 {
     let _most = greatest_tag(history.tailoring());
+    let last = history.newest_told();
     let mut starts = Vec::new(alloc);
     let mut from = 0;
-    while let Some(report) = history.report_from(from) {
+    while from <= last {
+        let Some(report) = history.report_from(from) else {
+            return Ok(starts);
+        };
         if let Some(start) = told_start(key, report) {
             starts.push(start)?;
         }

@@ -4,9 +4,9 @@ use Rattle.opening_sweeps.specs.Requests as requests
 use Rattle.opening_sweeps.proofs.GatherLemmas.{kept_from}
 use Rattle.opening_sweeps.proofs.gathering.told_starts.Given as goal
 
-abbrev pub invariant-loop-report : goal.invariant-loop-report
-invariant-loop-report l =
+abbrev pub invariant-loop-from : goal.invariant-loop-from
+invariant-loop-from l =
     l.starts.items ++ filter_map (requests.told_start l.key) (kept_from l.from l.history.history.kept) ≡ requests.told_starts l.history.history l.key
 
-abbrev pub decreases-loop-report : goal.decreases-loop-report
-decreases-loop-report l = length (kept_from l.from l.history.history.kept)
+abbrev pub decreases-loop-from : goal.decreases-loop-from
+decreases-loop-from l = length (kept_from l.from l.history.history.kept)

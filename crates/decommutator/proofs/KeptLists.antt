@@ -52,9 +52,10 @@ none-of n (k ∷ ks) h = ap (λ b. b || has_tag (map tag_of ks) n) (apart (tag_o
 -- each of some packets has one of their tags
 pub each-there : (ks : List Kept) → AllByRecursion (λ k. has_tag (map tag_of ks) k ≡ true) ks
 each-there [] = tt
-each-there (k ∷ ks) =
-    (ap (λ b. b || has_tag (map tag_of ks) k) (eq-eqb (tag_of k) (tag_of k) refl),
-    all-map (λ j. has_tag (map tag_of ks) j ≡ true) (λ j. has_tag (map tag_of (k ∷ ks)) j ≡ true) (λ j e. later (tag_of k == tag_of j) j e) ks (each-there ks))
+each-there (k ∷ ks) = (
+  ap (λ b. b || has_tag (map tag_of ks) k) (eq-eqb (tag_of k) (tag_of k) refl),
+  all-map (λ j. has_tag (map tag_of ks) j ≡ true) (λ j. has_tag (map tag_of (k ∷ ks)) j ≡ true) (λ j e. later (tag_of k == tag_of j) j e) ks (each-there ks),
+)
   where
     later : (b : Bool) (j : Kept) → has_tag (map tag_of ks) j ≡ true → (b || has_tag (map tag_of ks) j) ≡ true
     later true j e = refl
@@ -63,7 +64,7 @@ each-there (k ∷ ks) =
 -- of packets in the order of tags exactly those that a filter leaves have the tags of those
 pub tag-filter : (q : Kept → Bool) (ks : List Kept) → HaveRisingTags ks → AllByRecursion (λ k. has_tag (map tag_of (filter q ks)) k ≡ q k) ks
 tag-filter q [] h = tt
-tag-filter q (k ∷ ks) h = go (q k) refl
+tag-filter q (k ∷ ks) h = go (q k) refl (tag-filter q ks h.1)
   where
     rest : List Kept
     rest = filter q ks
@@ -74,13 +75,14 @@ tag-filter q (k ∷ ks) h = go (q k) refl
     other : (j : Kept) → tag_of k < tag_of j → (tag_of k == tag_of j) ≡ false
     other j lt = grind (arith, lt)
 
-    go : (b : Bool) → q k ≡ b
+    go : (b : Bool) → q k ≡ b → AllByRecursion (λ j. has_tag (map tag_of rest) j ≡ q j) ks
         → (has_tag (map tag_of (cond b (k ∷ rest) rest)) k ≡ q k) × AllByRecursion (λ j. has_tag (map tag_of (cond b (k ∷ rest) rest)) j ≡ q j) ks
-    go true e =
-        (ap (λ b. b || has_tag (map tag_of rest) k) (eq-eqb (tag_of k) (tag_of k) refl) ∙ sym e,
-        all-both (λ j. tag_of k < tag_of j) (λ j. has_tag (map tag_of rest) j ≡ q j) (λ j. has_tag (map tag_of (k ∷ rest)) j ≡ q j)
-        (λ j lt same. ap (λ b. b || has_tag (map tag_of rest) j) (other j lt) ∙ same) ks h.0 (tag-filter q ks h.1))
-    go false e = (none-of k rest above ∙ sym e, tag-filter q ks h.1)
+    go true e ih = (
+      ap (λ b. b || has_tag (map tag_of rest) k) (eq-eqb (tag_of k) (tag_of k) refl) ∙ sym e,
+      all-both (λ j. tag_of k < tag_of j) (λ j. has_tag (map tag_of rest) j ≡ q j) (λ j. has_tag (map tag_of (k ∷ rest)) j ≡ q j)
+          (λ j lt same. ap (λ b. b || has_tag (map tag_of rest) j) (other j lt) ∙ same) ks h.0 ih,
+    )
+    go false e ih = (none-of k rest above ∙ sym e, ih)
 
 pub those : (q : Kept → Bool) (ks : List Kept) → HaveRisingTags ks → filter (has_tag (map tag_of (filter q ks))) ks ≡ filter q ks
 those q ks rising = filter-same (has_tag (map tag_of (filter q ks))) q ks (tag-filter q ks rising)
@@ -101,10 +103,11 @@ rising-tags q (k ∷ ks) h = go (q k) (rising-tags q ks h.1)
 -- each of some packets in the order of tags is the first whose tag isn't below its own
 pub each-found : (ks : List Kept) → HaveRisingTags ks → AllByRecursion (λ k. find (λ j. nat_le (tag_of k) (tag_of j)) ks ≡ Some k) ks
 each-found [] h = tt
-each-found (k ∷ ks) h =
-    (ap (λ b. cond b (Some k) (find (λ j. nat_le (tag_of k) (tag_of j)) ks)) (same (tag_of k)),
-    all-both (λ j. tag_of k < tag_of j) (λ j. find (λ x. nat_le (tag_of j) (tag_of x)) ks ≡ Some j) (λ j. find (λ x. nat_le (tag_of j) (tag_of x)) (k ∷ ks) ≡ Some j)
-    (λ j lt e. ap (λ b. cond b (Some k) (find (λ x. nat_le (tag_of j) (tag_of x)) ks)) (past (tag_of k) (tag_of j) lt) ∙ e) ks h.0 (each-found ks h.1))
+each-found (k ∷ ks) h = (
+  ap (λ b. cond b (Some k) (find (λ j. nat_le (tag_of k) (tag_of j)) ks)) (same (tag_of k)),
+  all-both (λ j. tag_of k < tag_of j) (λ j. find (λ x. nat_le (tag_of j) (tag_of x)) ks ≡ Some j) (λ j. find (λ x. nat_le (tag_of j) (tag_of x)) (k ∷ ks) ≡ Some j)
+      (λ j lt e. ap (λ b. cond b (Some k) (find (λ x. nat_le (tag_of j) (tag_of x)) ks)) (past (tag_of k) (tag_of j) lt) ∙ e) ks h.0 (each-found ks h.1),
+)
   where
     same : (n : ℕ) → nat_le n n ≡ true
     same n = grind arith
@@ -120,11 +123,12 @@ AreOther n ks = AllByRecursion (λ k. (tag_of k == tag_of n) ≡ false) ks
 
 pub absent-other : (n : Kept) (ks : List Kept) → find (λ k. tag_of k == tag_of n) ks ≡ None → AreOther n ks
 absent-other n [] e = tt
-absent-other n (k ∷ ks) e = go (tag_of k == tag_of n) refl e
+absent-other n (k ∷ ks) e = go (tag_of k == tag_of n) refl e (absent-other n ks)
   where
-    go : (b : Bool) → (tag_of k == tag_of n) ≡ b → cond b (Some k) (find (λ j. tag_of j == tag_of n) ks) ≡ None → AreOther n (k ∷ ks)
-    go true f g = absurd (none-some k (sym g))
-    go false f g = (f, absent-other n ks g)
+    go : (b : Bool) → (tag_of k == tag_of n) ≡ b → cond b (Some k) (find (λ j. tag_of j == tag_of n) ks) ≡ None
+        → (find (λ j. tag_of j == tag_of n) ks ≡ None → AreOther n ks) → AreOther n (k ∷ ks)
+    go true f g ih = absurd (none-some k (sym g))
+    go false f g ih = (f, ih g)
 
 pub other-none : (n : Kept) (ks : List Kept) → AreOther n ks → has_tag (map tag_of ks) n ≡ false
 other-none n [] h = refl

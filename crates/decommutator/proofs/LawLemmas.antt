@@ -64,19 +64,22 @@ any-filter q (j ∷ js) k by = go (q j) (tag_of j == tag_of k) refl refl (any-fi
 -- the tag of what a list has stays there with a packet more
 any-inserted : (n : Kept) (ks : List Kept) (k : Kept) → has_tag (map tag_of ks) k ≡ true → has_tag (map tag_of (insert_kept n ks)) k ≡ true
 any-inserted n [] k e = absurd (true≢false (sym e))
-any-inserted n (j ∷ js) k e = go (nat_lt (tag_of n) (tag_of j))
+any-inserted n (j ∷ js) k e = go (nat_lt (tag_of n) (tag_of j)) (any-inserted n js k)
   where
     front : (a : Bool) → (a || has_tag (map tag_of (j ∷ js)) k) ≡ true
     front true = refl
     front false = e
 
-    behind : (c : Bool) → (c || has_tag (map tag_of js) k) ≡ true → (c || has_tag (map tag_of (insert_kept n js)) k) ≡ true
-    behind true f = refl
-    behind false f = any-inserted n js k f
+    Later : Type 0
+    Later = has_tag (map tag_of js) k ≡ true → has_tag (map tag_of (insert_kept n js)) k ≡ true
 
-    go : (b : Bool) → has_tag (map tag_of (if b then n ∷ j ∷ js else j ∷ insert_kept n js)) k ≡ true
-    go true = front (tag_of n == tag_of k)
-    go false = behind (tag_of j == tag_of k) e
+    behind : (c : Bool) → (c || has_tag (map tag_of js) k) ≡ true → Later → (c || has_tag (map tag_of (insert_kept n js)) k) ≡ true
+    behind true f ih = refl
+    behind false f ih = ih f
+
+    go : (b : Bool) → Later → has_tag (map tag_of (if b then n ∷ j ∷ js else j ∷ insert_kept n js)) k ≡ true
+    go true ih = front (tag_of n == tag_of k)
+    go false ih = behind (tag_of j == tag_of k) e ih
 
 any-later : (ks later : List Kept) (new : Option ℕ) (k : Kept) → Step ks later new → has_tag (map tag_of ks) k ≡ true → has_tag (map tag_of later) k ≡ true
 any-later ks later new k (inl same) e = ap (λ l. has_tag (map tag_of l) k) same.1 ∙ e
@@ -122,10 +125,21 @@ module _ (t : TailoringParts) (h : Header) where
       subst (λ (x : History). has_tag (map tag_of x.kept) k ≡ true) (known-newest entries e)
       (any-later (known entries).kept (known_with (protocol t) (known entries) e).kept _ k (steps g e) there)
 
+  -- what a filter leaves has tags of all
+  within : (q : Kept → Bool) (ks : List Kept) (k : Kept) → has_tag (map tag_of (filter q ks)) k ≡ true → has_tag (map tag_of ks) k ≡ true
+  within q [] k f = f
+  within q (j ∷ js) k f = pick (q j) (tag_of j == tag_of k) refl f (within q js k)
+    where
+      pick : (b c : Bool) → (tag_of j == tag_of k) ≡ c → has_tag (map tag_of (cond b (j ∷ filter q js) (filter q js))) k ≡ true
+          → (has_tag (map tag_of (filter q js)) k ≡ true → has_tag (map tag_of js) k ≡ true) → (c || has_tag (map tag_of js) k) ≡ true
+      pick b true f x ih = refl
+      pick true false f x ih = ih (sym (ap (λ c. c || has_tag (map tag_of (filter q js)) k) f) ∙ x)
+      pick false false f x ih = ih x
+
   -- the tags that are written are those of kept packets
   written-kept : (entries : List Entry) (k : Kept) → has_tag (written entries) k ≡ true → has_tag (map tag_of (known entries).kept) k ≡ true
   written-kept [] k e = absurd (true≢false (sym e))
-  written-kept (e ∷ entries) k there = go (has_tag (written entries) k) refl (sym (any-append (written entries) (map tag_of ones) k) ∙ there)
+  written-kept (e ∷ entries) k there = go (has_tag (written entries) k) refl (written-kept entries k) (sym (any-append (written entries) (map tag_of ones) k) ∙ there)
     where
       later : History
       later = known (e ∷ entries)
@@ -133,18 +147,10 @@ module _ (t : TailoringParts) (h : Header) where
       ones : List Kept
       ones = new_ones t later (written entries)
 
-      within : (q : Kept → Bool) (ks : List Kept) → has_tag (map tag_of (filter q ks)) k ≡ true → has_tag (map tag_of ks) k ≡ true
-      within q [] f = f
-      within q (j ∷ js) f = pick (q j) (tag_of j == tag_of k) refl f
-        where
-          pick : (b c : Bool) → (tag_of j == tag_of k) ≡ c → has_tag (map tag_of (cond b (j ∷ filter q js) (filter q js))) k ≡ true → (c || has_tag (map tag_of js) k) ≡ true
-          pick b true f x = refl
-          pick true false f x = within q js (sym (ap (λ c. c || has_tag (map tag_of (filter q js)) k) f) ∙ x)
-          pick false false f x = within q js x
-
-      go : (b : Bool) → has_tag (written entries) k ≡ b → (b || has_tag (map tag_of ones) k) ≡ true → has_tag (map tag_of later.kept) k ≡ true
-      go true f x = grows entries e k (written-kept entries k f)
-      go false f x = within (λ j. is_ready t later j && not (has_tag (written entries) j)) later.kept x
+      go : (b : Bool) → has_tag (written entries) k ≡ b → (has_tag (written entries) k ≡ true → has_tag (map tag_of (known entries).kept) k ≡ true)
+          → (b || has_tag (map tag_of ones) k) ≡ true → has_tag (map tag_of later.kept) k ≡ true
+      go true f ih x = grows entries e k (ih f)
+      go false f ih x = within (λ j. is_ready t later j && not (has_tag (written entries) j)) later.kept k x
 
   -- a packet's block isn't written before an entry exactly where its tag isn't
   open-is : (entries : List Entry) (k : Kept) → is_unwritten (stands entries) k ≡ not (has_tag (written entries) k)
@@ -172,11 +178,11 @@ module _ (t : TailoringParts) (h : Header) where
   text-is entries e =
       let later : History = known_with (protocol t) (known entries) e in
       let ready : Kept → Bool = is_ready t later in
-      let open : Kept → Bool = is_unwritten (stands entries) in
+      let fresh : Kept → Bool = is_unwritten (stands entries) in
       let due : Kept → Bool = λ k. ready k && not (has_tag (written entries) k) in
-      let one : filter ready (filter open later.kept) ≡ filter due later.kept =
-      filter-filter ready open later.kept
-      ∙ filter-all (λ k. open k && ready k) due later.kept (λ k. swap-and (open k) (ready k) ∙ ap (λ b. ready k && b) (open-is entries k)) in
+      let one : filter ready (filter fresh later.kept) ≡ filter due later.kept =
+      filter-filter ready fresh later.kept
+      ∙ filter-all (λ k. fresh k && ready k) due later.kept (λ k. swap-and (fresh k) (ready k) ∙ ap (λ b. ready k && b) (open-is entries k)) in
       ap (flat_map (block t later)) one
       ∙ ap (λ (x : History). flat_map (block t x) (new_ones t x (written entries))) (known-newest entries e)
 

@@ -4,7 +4,7 @@ use Rattle.std.proofs.lemmas.Bool.{true≢false}
 use Rattle.std.proofs.lemmas.List.{drop_more, append-nil}
 use Rattle.std.proofs.lemmas.List.Elements.{filter-append}
 use Rattle.std.proofs.lemmas.Grind.{flat_map-append}
-use Rattle.std.specs.Prelude.{⊤, filter, flat_map}
+use Rattle.std.specs.Prelude.{⊤, OnOk, filter, flat_map}
 use Rattle.std.specs.List.{AllByRecursion}
 use Rattle.pus_messages.specs.declared.message.Report.{Report}
 use Rattle.ground_history.specs.Ground.{Ground}
@@ -121,3 +121,7 @@ as-it-was octets from = λ text rest before under. under
 
 pub ended : (octets out others : List ℕ) (fault : WriteFault) (from now : Seen) → Proceeds octets from (Err fault) out now → Proceeds octets from (Err fault) others now
 ended octets out others fault from now first = first
+
+pub on-ok : (result : Result Unit WriteFault) (P : Type 0) → P → OnOk result P
+on-ok (Ok done) P p = p
+on-ok (Err fault) P p = tt

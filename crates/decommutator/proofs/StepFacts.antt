@@ -188,26 +188,26 @@ last-blocks g (k ∷ ks) h =
 
 module _ (g later : Ground) (tags : List ℕ) (c : Changed) (are : AreWaiting tags g) (rising : HaveRisingTags g.history.kept) (rising_later : HaveRisingTags later.history.kept)
     (step : Step g.history.kept later.history.kept c.new) where
-  abbrev open : List Kept
-  open = filter (is_open tags g.history.kept) later.history.kept
+  abbrev opened : List Kept
+  opened = filter (is_open tags g.history.kept) later.history.kept
 
   abbrev all_tags : List ℕ
   all_tags = with_new c.new tags
 
-  tags-are : all_tags ≡ map tag_of open
+  tags-are : all_tags ≡ map tag_of opened
   tags-are = open-tags tags g later.history.kept c.new are.are rising step
 
-  found : AllByRecursion (IsFound later) open
+  found : AllByRecursion (IsFound later) opened
   found = all-found later (is_open tags g.history.kept) rising_later
 
   pub all-rising : AreRising all_tags
   all-rising = subst AreRising (sym tags-are) (rising-tags (is_open tags g.history.kept) later.history.kept rising_later)
 
-  pub all-due : flat_map (due_text later) all_tags ≡ flat_map (block later.tailoring later.history) (filter (is_ready later.tailoring later.history) open)
-  all-due = ap (flat_map (due_text later)) tags-are ∙ due-blocks later open found
+  pub all-due : flat_map (due_text later) all_tags ≡ flat_map (block later.tailoring later.history) (filter (is_ready later.tailoring later.history) opened)
+  all-due = ap (flat_map (due_text later)) tags-are ∙ due-blocks later opened found
 
-  pub all-waiting : filter (waits later) all_tags ≡ map tag_of (filter (λ k. not (is_ready later.tailoring later.history k)) open)
-  all-waiting = ap (filter (waits later)) tags-are ∙ waiting-tags later open found
+  pub all-waiting : filter (waits later) all_tags ≡ map tag_of (filter (λ k. not (is_ready later.tailoring later.history k)) opened)
+  all-waiting = ap (filter (waits later)) tags-are ∙ waiting-tags later opened found
 
   -- those that wait and whose verdict is the same wait on
   abbrev WaitsOn : ℕ → Type 0
@@ -232,28 +232,28 @@ module _ (g later : Ground) (tags : List ℕ) (c : Changed) (are : AreWaiting ta
   pub all-same : AreSameBelow c.from g later → AllByRecursion WaitsOn all_tags
   all-same same =
       subst (AllByRecursion WaitsOn) (sym tags-are)
-      (on-tags open found
+      (on-tags opened found
       (open-all (λ k. is_same c (tag_of k) ≡ true → is_ready later.tailoring later.history k ≡ false) tags g later.history.kept c.new rising step
       (all-map (λ k. is_ready g.tailoring g.history k ≡ false) (λ k. is_same c (tag_of k) ≡ true → is_ready later.tailoring later.history k ≡ false)
       (λ k unready e. stays g later c.from k same (low (is_below c.from (tag_of k)) (not (is_new c.new (tag_of k))) e) unready) (waiting_packets tags g) are.unready)
       (λ n is e.
-        let new : is_new c.new (tag_of n) ≡ true = ap (λ o. is_new o (tag_of n)) is ∙ eq-eqb (tag_of n) (tag_of n) refl in
-        let other : not (is_new c.new (tag_of n)) ≡ true = high (is_below c.from (tag_of n)) (not (is_new c.new (tag_of n))) e in
-        absurd (true≢false (sym other ∙ ap not new)))))
+      let new : is_new c.new (tag_of n) ≡ true = ap (λ o. is_new o (tag_of n)) is ∙ eq-eqb (tag_of n) (tag_of n) refl in
+      let other : not (is_new c.new (tag_of n)) ≡ true = high (is_below c.from (tag_of n)) (not (is_new c.new (tag_of n))) e in
+      absurd (true≢false (sym other ∙ ap not new)))))
 
   -- those that still wait
-  pub still-waiting : AreWaiting (map tag_of (filter (λ k. not (is_ready later.tailoring later.history k)) open)) later
+  pub still-waiting : AreWaiting (map tag_of (filter (λ k. not (is_ready later.tailoring later.history k)) opened)) later
   still-waiting =
       let unready : Kept → Bool = λ k. not (is_ready later.tailoring later.history k) in
       let q : Kept → Bool = λ k. is_open tags g.history.kept k && unready k in
-      let as_one : filter unready open ≡ filter q later.history.kept = filter-filter unready (is_open tags g.history.kept) later.history.kept in
-      let packets : waiting_packets (map tag_of (filter unready open)) later ≡ filter unready open =
+      let as_one : filter unready opened ≡ filter q later.history.kept = filter-filter unready (is_open tags g.history.kept) later.history.kept in
+      let packets : waiting_packets (map tag_of (filter unready opened)) later ≡ filter unready opened =
       ap (λ l. filter (has_tag (map tag_of l)) later.history.kept) as_one ∙ (those q later.history.kept rising_later ∙ sym as_one) in
       record {
         are = sym (ap (map tag_of) packets);
         unready = subst (AllByRecursion (λ k. is_ready later.tailoring later.history k ≡ false)) (sym packets)
-            (all-map (λ k. unready k ≡ true) (λ k. is_ready later.tailoring later.history k ≡ false) (λ k e. off (is_ready later.tailoring later.history k) e) (filter unready open)
-            (filter-passes unready open));
+            (all-map (λ k. unready k ≡ true) (λ k. is_ready later.tailoring later.history k ≡ false) (λ k e. off (is_ready later.tailoring later.history k) e) (filter unready opened)
+            (filter-passes unready opened));
       }
     where
       off : (b : Bool) → not b ≡ true → b ≡ false

@@ -28,19 +28,19 @@ pub front-below : (xs : List ℕ) (from place : ℕ) → place ≤ length xs →
     → AllByRecursion (λ x. x < from) (take place xs)
 front-below xs from place within point =
     recursion_from_All (λ x. x < from) (take place xs) (λ k d lt.
-      let long = length-take place xs in
-      let here : k < place = omega (arith, long, lt, within) in
-      let nothing : 0 ≤ k = omega arith in
-      subst (λ x. x < from) (sym (get_or-take place xs k d here)) (ltb-true (get_or xs k d) from (point.0 k d nothing here)))
+    let long = length-take place xs in
+    let here : k < place = omega (arith, long, lt, within) in
+    let nothing : 0 ≤ k = omega arith in
+    subst (λ x. x < from) (sym (get_or-take place xs k d here)) (ltb-true (get_or xs k d) from (point.0 k d nothing here)))
 
 pub behind-later : (xs : List ℕ) (from place : ℕ) → place ≤ length xs → IsPartitionPoint (λ x. nat_lt x from ≡ true) (λ x. nat_lt x from ≡ false) xs place
     → AllByRecursion (λ x. from ≤ x) (drop place xs)
 behind-later xs from place within point =
     recursion_from_All (λ x. from ≤ x) (drop place xs) (λ k d lt.
-      let long = length-drop place xs in
-      let low : place ≤ place + k = omega arith in
-      let high : place + k < length xs = omega (arith, long, lt, within) in
-      subst (λ x. from ≤ x) (sym (get_or-drop place xs k d)) (ltb-false (get_or xs (place + k) d) from (point.1 (place + k) d low high)))
+    let long = length-drop place xs in
+    let low : place ≤ place + k = omega arith in
+    let high : place + k < length xs = omega (arith, long, lt, within) in
+    subst (λ x. from ≤ x) (sym (get_or-drop place xs k d)) (ltb-false (get_or xs (place + k) d) from (point.1 (place + k) d low high)))
 
 -- a tag that is put between those below it and the others stands in its place
 pub inserted-between : (tag : ℕ) (front later all : List ℕ) → AllByRecursion (λ x. x < tag) front → AllByRecursion (λ x. tag ≤ x) later → front ++ later ≡ all

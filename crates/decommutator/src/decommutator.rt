@@ -105,10 +105,12 @@ impl Decommutator {
             entries,
             following,
         } = self;
-        let Some(Following {
-            mut live,
-            mut waiting,
-        }) = following
+        let Some(
+            Following {
+                mut live,
+                mut waiting,
+            },
+        ) = following
         else {
             unreachable!();
         };
@@ -132,6 +134,7 @@ impl Decommutator {
         ensures count { FinishCounts result (K.faults sink.old) (K.faults sink.new) }
         ensures room { FinishesWithin (closing_text self) result (K.room sink.old) }
     {
+        let _known = self.history.tailoring();
         let Some(following) = &self.following else {
             unreachable!();
         };

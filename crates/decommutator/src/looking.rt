@@ -38,7 +38,16 @@ pub(crate) fn write_due<K: Sink>(
     };
     let tags = split_from(waiting, first)?;
     let mut out = Vec::new(alloc);
-    look_over(alloc, live, history, changed, tags.as_slice(), waiting, sink, &mut out)?;
+    look_over(
+        alloc,
+        live,
+        history,
+        changed,
+        tags.as_slice(),
+        waiting,
+        sink,
+        &mut out,
+    )?;
     write_gathered(sink, &mut out)
 }
 

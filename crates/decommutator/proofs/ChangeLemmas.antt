@@ -5,7 +5,7 @@ use Rattle.std.proofs.lemmas.Option.{none-some, same_Some}
 use Rattle.pus_messages.specs.Messages.{protocol}
 use Rattle.pus_messages.specs.Protocol.{Reception, foreign, skipped, unread, readable}
 use Rattle.pus_messages.specs.declared.message.Report.{Report}
-use Rattle.ground_history.specs.Histories.{History, sent_answer, got_kind, kind_by_reception, with_sent, history_with_sent, history_with_report, history_with_got}
+use Rattle.ground_history.specs.Histories.{sent_answer, got_kind, kind_by_reception, with_sent, history_with_sent, history_with_report, history_with_got}
 use Rattle.ground_history.specs.Ground.{Ground, with_history}
 use Rattle.ground_history.specs.declared.answer.GotKind.{GotKind}
 use Rattle.ground_history.specs.declared.answer.GotKind.TheVariants as became

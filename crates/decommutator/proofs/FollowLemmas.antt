@@ -1,12 +1,9 @@
 -- What following an entry makes of what stands.
-use Rattle.std.proofs.Common.{◌≡◌, ℕ, ◌+◌, ◌-◌, ◌≤◌, refl, sym, ◌∙◌, ap, subst, List, [], ◌++◌, length, map, not, Option, Some, None, Result, Ok, Err, IfSome}
-use Rattle.std.proofs.lemmas.List.{append-nil}
+use Rattle.std.proofs.Common.{◌≡◌, ℕ, ◌+◌, sym, ◌∙◌, ap, subst, List, [], ◌++◌, map, not, Some, None, Result, Ok, Err}
 use Rattle.std.specs.Prelude.{filter, flat_map}
-use Rattle.std.specs.List.{AllByRecursion}
 use Rattle.pus_messages.specs.Messages.{protocol}
-use Rattle.ground_history.specs.Histories.{Kept, tag_of}
-use Rattle.ground_history.specs.Ground.{Ground, HaveRisingTags, with_history}
-use Rattle.session_record.specs.Writing.{Writes}
+use Rattle.ground_history.specs.Histories.{tag_of}
+use Rattle.ground_history.specs.Ground.{Ground, HaveRisingTags}
 use Rattle.session_record.specs.declared.entry.Entry.{Entry}
 use Rattle.session_record.specs.declared.entry.WriteFault.{WriteFault}
 use Rattle.session_texts.specs.Sessions.{known_with}
@@ -18,13 +15,13 @@ use Rattle.live_verdicts.specs.Marks.{Live}
 use Rattle.live_verdicts.specs.Changes.{AreSameBelow}
 use Rattle.decommutator.specs.Standing.{Standing, Decommutation, with_entry, counts_with, ground_after}
 use Rattle.decommutator.specs.Following.{followed_text, after_followed, closing_text}
-use Rattle.decommutator.specs.Due.{came_of, new_tag, is_same, with_new, AreRising, due_text, waits, last_text, waiting_packets}
+use Rattle.decommutator.specs.Due.{came_of, new_tag, with_new, AreRising, due_text, waits, last_text, waiting_packets}
 use Rattle.decommutator.specs.Follows.{AreWaiting, HasCome, FollowWrites, FollowCounts, FollowsWithin}
 use Rattle.decommutator.specs.Output.{Seen, Proceeds, IsUnderWay, HasEnded}
 use Rattle.decommutator.specs.declared.changed.Came.{Came}
 use Rattle.decommutator.specs.declared.changed.Changed.{Changed}
 use Rattle.decommutator.specs.declared.fault.FollowFault.{FollowFault}
-use Rattle.decommutator.specs.declared.fault.FollowFault.TheVariants.{Sent, Write}
+use Rattle.decommutator.specs.declared.fault.FollowFault.TheVariants.{Write}
 use Rattle.decommutator.proofs.KeptLists.{rising-tags}
 use Rattle.decommutator.proofs.StepFacts.{Step, steps, is_open, all-rising, all-due, all-waiting, all-same, still-waiting, all-found, last-blocks}
 use Rattle.decommutator.proofs.LookLemmas.{WaitOn}

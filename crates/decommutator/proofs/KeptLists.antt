@@ -1,13 +1,13 @@
 -- Lists of kept packets in the order of tags, and what a filter leaves of them.
-use Rattle.std.proofs.Common.{arith, ◌≡◌, ℕ, ◌≤◌, ◌<◌, refl, sym, ◌∙◌, ap, subst, List, [], ◌∷◌, ◌++◌, map, Bool, true, false, cond, not, ◌&&◌, ◌||◌, ◌==◌, nat_lt, nat_le, Option, Some, None, if◌then◌else◌}
-use Rattle.std.proofs.lemmas.Bool.{ltb-true, ltb-false, lt-ltb, le-ltb, eq-eqb, eqb-true, eqb-false, true≢false}
+use Rattle.std.proofs.Common.{arith, ◌≡◌, ℕ, ◌<◌, refl, sym, ◌∙◌, ap, List, [], ◌∷◌, map, Bool, true, false, cond, ◌&&◌, ◌||◌, ◌==◌, nat_lt, nat_le, Some, None, if◌then◌else◌}
+use Rattle.std.proofs.lemmas.Bool.{ltb-true, ltb-false, lt-ltb, eq-eqb, true≢false}
 use Rattle.std.proofs.lemmas.Option.{none-some}
-use Rattle.std.specs.Prelude.{⊤, filter, flat_map, find}
-use Rattle.std.specs.List.{AllByRecursion, list_any}
-use Rattle.hk_base.proofs.Membership.{IsIn, IsIn-filter, AllByRecursion-IsIn, IsIn-AllByRecursion}
+use Rattle.std.specs.Prelude.{filter, find}
+use Rattle.std.specs.List.{AllByRecursion}
+use Rattle.hk_base.proofs.Membership.{IsIn-filter, AllByRecursion-IsIn, IsIn-AllByRecursion}
 use Rattle.ground_history.specs.Histories.{Kept, tag_of, insert_kept}
 use Rattle.ground_history.specs.Ground.{HaveRisingTags}
-use Rattle.ground_history.proofs.KeptLemmas.{all-insert_kept, all-map}
+use Rattle.ground_history.proofs.KeptLemmas.{all-map}
 use Rattle.session_texts.specs.Follow.{has_tag}
 use Rattle.decommutator.specs.Due.{AreRising, insert_tag}
 

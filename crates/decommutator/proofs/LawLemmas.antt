@@ -1,11 +1,9 @@
 -- What stands for entries that were each followed.
-use Rattle.std.proofs.Common.{arith, ◌≡◌, ℕ, refl, sym, ◌∙◌, ap, subst, List, [], ◌∷◌, ◌++◌, map, reverse, Bool, true, false, cond, not, ◌&&◌, ◌||◌, ◌==◌, nat_lt, Option, Some, None, ◌⊎◌, inl, inr, if◌then◌else◌}
-use Rattle.std.proofs.lemmas.Bool.{eq-eqb, eqb-true, eqb-false, true≢false}
+use Rattle.std.proofs.Common.{◌≡◌, ℕ, refl, sym, ◌∙◌, ap, subst, List, [], ◌∷◌, ◌++◌, map, reverse, Bool, true, false, cond, not, ◌&&◌, ◌||◌, ◌==◌, nat_lt, Option, Some, inl, inr, if◌then◌else◌}
+use Rattle.std.proofs.lemmas.Bool.{eqb-true, true≢false}
 use Rattle.std.proofs.lemmas.List.{reverse-append}
 use Rattle.std.specs.Prelude.{filter, flat_map}
-use Rattle.std.specs.List.{AllByRecursion}
 use Rattle.hk_base.specs.TailoringParts.{TailoringParts}
-use Rattle.hk_base.proofs.Membership.{AllByRecursion-IsIn}
 use Rattle.pus_messages.specs.Messages.{protocol}
 use Rattle.ground_history.specs.Histories.{Kept, History, tag_of, insert_kept}
 use Rattle.ground_history.specs.Ground.{Ground, HaveRisingTags}
@@ -19,10 +17,10 @@ use Rattle.session_texts.proofs.KeptFacts.{AreRising, kept-rising}
 use Rattle.block_lines.specs.Counts.{counts_of, lines_of}
 use Rattle.decommutator.specs.Standing.{Decommutation, Standing, with_entry}
 use Rattle.decommutator.specs.Entries.{standing_of}
-use Rattle.decommutator.specs.Following.{is_unwritten, unwritten, is_ready_after, followed_text, after_followed, closing_text, IsFollowing}
+use Rattle.decommutator.specs.Following.{is_unwritten, followed_text, after_followed, closing_text, IsFollowing}
 use Rattle.decommutator.proofs.EntryLemmas.{next-stands}
 use Rattle.decommutator.proofs.KeptLists.{filter-same, filter-all, filter-filter, tag-filter, those}
-use Rattle.decommutator.proofs.StepFacts.{Step, steps, is_open}
+use Rattle.decommutator.proofs.StepFacts.{Step, steps}
 
 -- ---- what has the tags of lists
 

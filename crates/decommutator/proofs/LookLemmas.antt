@@ -1,17 +1,17 @@
 -- Reports that are looked at one by one, in the order of tags.
-use Rattle.std.proofs.Common.{arith, ◌≡◌, ℕ, ◌+◌, ◌<◌, ◌≤◌, refl, sym, ◌∙◌, ap, subst, List, [], ◌∷◌, ◌++◌, length, drop, get_or, append_assoc, Bool, true, false, cond, not, Option, Some, None, Result, Ok, Err, if◌then◌else◌}
+use Rattle.std.proofs.Common.{◌≡◌, ℕ, ◌+◌, ◌<◌, refl, sym, ◌∙◌, ap, subst, List, [], ◌∷◌, ◌++◌, length, drop, get_or, append_assoc, Bool, true, false, cond, not, Option, Some, None, Result, Ok, Err, if◌then◌else◌}
 use Rattle.std.proofs.lemmas.Bool.{true≢false}
-use Rattle.std.proofs.lemmas.List.{drop_more, append-nil}
+use Rattle.std.proofs.lemmas.List.{drop_more}
 use Rattle.std.proofs.lemmas.List.Elements.{filter-append}
 use Rattle.std.proofs.lemmas.Grind.{flat_map-append}
-use Rattle.std.specs.Prelude.{⊤, OnOk, filter, flat_map}
+use Rattle.std.specs.Prelude.{OnOk, filter, flat_map}
 use Rattle.std.specs.List.{AllByRecursion}
 use Rattle.pus_messages.specs.declared.message.Report.{Report}
 use Rattle.ground_history.specs.Ground.{Ground}
 use Rattle.live_verdicts.specs.Changes.{IsBelow}
 use Rattle.session_record.specs.declared.entry.WriteFault.{WriteFault}
 use Rattle.session_texts.specs.Blocks.{body_block}
-use Rattle.decommutator.specs.Output.{Seen, Proceeds, IsUnderWay}
+use Rattle.decommutator.specs.Output.{Seen, Proceeds}
 use Rattle.decommutator.specs.Due.{is_same, is_ready_report, due_block, is_waiting, report_from, due_text, waits}
 use Rattle.decommutator.specs.declared.changed.Changed.{Changed}
 use Rattle.decommutator.proofs.OutputLemmas.{goes-on, stops}

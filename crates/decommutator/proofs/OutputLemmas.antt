@@ -1,13 +1,13 @@
 -- A text that reaches a sink piece by piece.
-use Rattle.std.proofs.Common.{arith, ◌≡◌, ℕ, ◌+◌, ◌-◌, ◌≤◌, refl, sym, ◌∙◌, ap, subst, List, [], ◌∷◌, ◌++◌, length, take, append_assoc, length-append, Bool, true, false, Option, Some, None, Result, Ok, Err}
-use Rattle.std.specs.Prelude.{IfSome, IsOk}
+use Rattle.std.proofs.Common.{arith, ◌≡◌, ℕ, ◌+◌, ◌-◌, ◌≤◌, refl, sym, ◌∙◌, ap, subst, List, [], ◌++◌, length, take, append_assoc, length-append, true, false, Option, Some, None, Result, Ok, Err}
+use Rattle.std.specs.Prelude.{IfSome}
 use Rattle.std.proofs.Math.Seq.{take-append-add, take-append_seam}
 use Rattle.std.proofs.lemmas.List.{append-nil, take-append-le}
 use Rattle.hk_base.specs.Outside.{HasRisen}
-use Rattle.session_record.specs.Writing.{Writes, WriteCounts, WritesWithin, HasWritten}
+use Rattle.session_record.specs.Writing.{Writes, WriteCounts, WritesWithin}
 use Rattle.session_record.specs.declared.entry.WriteFault.{WriteFault}
 use Rattle.session_record.specs.declared.entry.WriteFault.TheVariants.{Failed, Memory}
-use Rattle.decommutator.specs.Output.{Seen, seen_as, IsUnderWay, HasEnded, Proceeds, FinishCounts, FinishesWithin, IsUnfailed}
+use Rattle.decommutator.specs.Output.{Seen, IsUnderWay, HasEnded, Proceeds, FinishesWithin}
 
 -- a text of which nothing was written yet
 pub begins : (text : List ℕ) (before : Seen) → IsUnderWay text text before before

@@ -1,10 +1,9 @@
 -- What an entry brings to what waits.
-use Rattle.std.proofs.Common.{arith, ◌≡◌, ℕ, ◌<◌, refl, sym, ◌∙◌, ap, subst, List, [], ◌∷◌, ◌++◌, map, Bool, true, false, cond, not, ◌&&◌, ◌||◌, ◌==◌, nat_le, Option, Some, None, Result, Ok, Err, ◌⊎◌, inl, inr, if◌then◌else◌}
+use Rattle.std.proofs.Common.{◌≡◌, ℕ, refl, sym, ◌∙◌, ap, subst, List, [], ◌∷◌, ◌++◌, map, Bool, true, false, cond, not, ◌&&◌, ◌||◌, ◌==◌, nat_le, Option, Some, None, Result, Ok, Err, ◌⊎◌, inl, inr, if◌then◌else◌}
 use Rattle.std.proofs.lemmas.Bool.{ltb-true, eq-eqb, true≢false}
-use Rattle.std.specs.Prelude.{⊤, filter, flat_map, find, bytes_eq, option_map}
+use Rattle.std.specs.Prelude.{filter, flat_map, find, bytes_eq, option_map}
 use Rattle.std.specs.List.{AllByRecursion}
 use Rattle.std.specs.Option.{option_map_or}
-use Rattle.hk_base.specs.TailoringParts.{TailoringParts}
 use Rattle.st03_grammar.specs.declared.bodies.Report03.TheVariants as hk
 use Rattle.pus_messages.specs.Messages.{protocol}
 use Rattle.pus_messages.specs.Protocol.{Reception, foreign, skipped, unread, readable}
@@ -12,7 +11,7 @@ use Rattle.pus_messages.specs.declared.message.Report.{Report}
 use Rattle.pus_messages.specs.declared.message.ReportBody.{ReportBody}
 use Rattle.pus_messages.specs.declared.message.ReportBody.TheVariants.{Verify, Hk, Stat, Par}
 use Rattle.ground_history.specs.Histories.{Kept, History, tag_of, insert_kept, kept_at, kind_by_tag, stray_id, number_of_body, kind_by_reception, sent_answer, history_with_sent, history_with_report, history_with_got}
-use Rattle.ground_history.specs.Ground.{Ground, HaveRisingTags, with_history}
+use Rattle.ground_history.specs.Ground.{Ground, HaveRisingTags}
 use Rattle.ground_history.specs.declared.answer.GotKind.TheVariants as became
 use Rattle.ground_history.specs.declared.answer.SentFault.{SentFault}
 use Rattle.ground_history.proofs.KeptLemmas.{all-insert_kept, all-map}
@@ -21,10 +20,10 @@ use Rattle.definition_intervals.specs.Openings.{openings}
 use Rattle.session_record.specs.declared.entry.Entry.{Entry}
 use Rattle.session_record.specs.declared.entry.Entry.TheVariants.{Sent, Got, Line}
 use Rattle.session_texts.specs.Sessions.{known_with}
-use Rattle.session_texts.specs.Blocks.{block, body_block}
+use Rattle.session_texts.specs.Blocks.{block}
 use Rattle.session_texts.specs.Follow.{is_decision, is_ready, is_ready_body, has_tag}
 use Rattle.live_verdicts.specs.Changes.{IsBelow, AreSameBelow}
-use Rattle.decommutator.specs.Due.{came_sent, came_got, came_of, new_tag, is_below, is_new, is_same, with_new, insert_tag, AreRising, report_from, is_ready_report, ready_block, due_text, waits, last_text, is_waiting, due_block, last_block, waiting_packets}
+use Rattle.decommutator.specs.Due.{came_sent, came_got, came_of, new_tag, is_below, is_new, is_same, with_new, insert_tag, AreRising, report_from, due_text, waits, last_text, is_waiting, due_block, last_block, waiting_packets}
 use Rattle.decommutator.specs.Follows.{AreWaiting}
 use Rattle.decommutator.specs.declared.changed.Changed.{Changed}
 use Rattle.decommutator.proofs.KeptLists.{filter-same, filter-filter, all-filter, filter-passes, each-there, those, rising-tags, each-found, AreOther, absent-other, other-none, inserted-tags, filter-inserted}

@@ -1,10 +1,9 @@
 -- What following an entry answers and writes, and what is held between entries.
-use Rattle.std.specs.Prelude.{◌≡◌, ◌≤◌, ◌-◌, ⊤, ℕ, List, map, filter, length, false, Option, Some, Result, Ok, Err, IfSome}
+use Rattle.std.specs.Prelude.{◌≡◌, ◌≤◌, ◌-◌, ℕ, List, map, length, false, Option, Some, Result, Ok, Err, IfSome}
 use Rattle.std.specs.List.{AllByRecursion}
-use Rattle.ground_history.specs.Histories.{Kept, tag_of}
+use Rattle.ground_history.specs.Histories.{tag_of}
 use Rattle.ground_history.specs.Ground.{Ground, HaveRisingTags, IsAnswer}
 use Rattle.session_record.specs.Writing.{Writes}
-use Rattle.session_record.specs.declared.entry.WriteFault.{WriteFault}
 use Rattle.session_texts.specs.Follow.{is_ready}
 use Rattle.ground_history.specs.declared.answer.SentFault.{SentFault}
 use Rattle.decommutator.specs.Output.{FinishCounts, FinishesWithin}
@@ -16,7 +15,8 @@ use Rattle.decommutator.specs.declared.changed.Came.{Came}
 use Rattle.decommutator.specs.declared.fault.FollowFault.{FollowFault}
 use Rattle.decommutator.specs.declared.fault.FollowFault.TheVariants.{Sent, Write}
 
--- An entry is followed only where it can be taken, and also writing fails only there. A refusal of the entry is the one that there is; want of memory alone is free.
+-- An entry is followed only where it can be taken, and writing fails only there too. A refusal of the entry is the one that there is; want of
+-- memory alone is free.
 abbrev pub FollowAnswers : {X : Type 0} → Result Unit SentFault → Result X FollowFault → Type 0
 FollowAnswers wanted (Ok later) = wanted ≡ Ok tt
 FollowAnswers wanted (Err (Write fault)) = wanted ≡ Ok tt

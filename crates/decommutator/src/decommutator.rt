@@ -49,9 +49,13 @@ impl Model for Decommutator {
 
     ghost Value = { Decommutation };
 
-    ghost view = { λ d. record { standing = record { tailoring = d.history.tailoring; history = d.history.history; counts = d.counts; entries = d.entries }; waiting = option_map (λ f. f.waiting.items) d.following } };
+    ghost view = { λ d. record {
+      standing = record { tailoring = d.history.tailoring; history = d.history.history; counts = d.counts; entries = d.entries };
+      waiting = option_map (λ f. f.waiting.items) d.following;
+    } };
 
-    ghost invariant = { λ d. IsOrderly (record { tailoring = d.history.tailoring; history = d.history.history; counts = d.counts; entries = d.entries }) × IfSome d.following (λ f. StandsFor f.live d.history × AreWaiting f.waiting.items d.history) };
+    ghost invariant = { λ d. IsOrderly (record { tailoring = d.history.tailoring; history = d.history.history; counts = d.counts; entries = d.entries })
+        × IfSome d.following (λ f. StandsFor f.live d.history × AreWaiting f.waiting.items d.history) };
 }
 
 impl Decommutator {
@@ -87,7 +91,7 @@ impl Decommutator {
     }
 
     /// One more entry, after which the blocks are written that can be written now and weren't before, in the order of tags. After a
-    /// refusal of the entry nothing was written; where writing ends in a fault, the first part of the text was.
+    /// refusal of the entry nothing was written; where writing ends in a fault, a first part of the text was. Nothing stands after either.
     pub fn follow<K: Sink>(self, entry: &Entry, sink: &mut K) -> Result<Decommutator, FollowFault>
         requires few { self.standing.entries < 4294967295 }
         requires size { length (held_octets entry.now) ≤ 2 ^ 31 }
@@ -127,7 +131,8 @@ impl Decommutator {
         })
     }
 
-    /// Writes what is left after the last entry: the other blocks in the order of tags, and then the counts.
+    /// Writes what is left after the last entry: the other blocks in the order of tags, and then the counts. Where writing ends in a
+    /// fault, a first part of that was written.
     pub fn close<K: Sink>(self, sink: &mut K) -> Result<(), WriteFault>
         requires followed { IsSome self.waiting }
         ensures written { Writes (closing_text self) result (K.taken sink.old) (K.taken sink.new) }

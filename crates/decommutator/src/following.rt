@@ -32,7 +32,9 @@ pub(crate) fn go_on<K: Sink>(
     sink: &mut K,
 ) -> Result<(), WriteFault>
     requires { HasCome live.old waiting.old.items came history.now }
-    ensures text { Proceeds (flat_map (due_text history.now) (with_new (new_tag came) waiting.old.items)) (seen_as (K.taken sink.old) (K.faults sink.old) (K.room sink.old)) result [] (seen_as (K.taken sink.new) (K.faults sink.new) (K.room sink.new)) }
+    ensures text { Proceeds (flat_map (due_text history.now) (with_new (new_tag came) waiting.old.items))
+        (seen_as (K.taken sink.old) (K.faults sink.old) (K.room sink.old)) result []
+        (seen_as (K.taken sink.new) (K.faults sink.new) (K.room sink.new)) }
     ensures waiting { OnOk result (waiting.new.items ≡ filter (waits history.now) (with_new (new_tag came) waiting.old.items)) }
     ensures stands { OnOk result (StandsFor live.new history.now) }
 {

@@ -29,7 +29,9 @@ pub(crate) fn write_due<K: Sink>(
     requires stands { StandsFor live.old history.now }
     requires rising { AreRising waiting.old.items }
     requires same { AllByRecursion (λ tag. due.is_same changed tag ≡ true → waits history.now tag ≡ true) waiting.old.items }
-    ensures text { Proceeds (flat_map (due_text history.now) waiting.old.items) (seen_as (K.taken sink.old) (K.faults sink.old) (K.room sink.old)) result [] (seen_as (K.taken sink.new) (K.faults sink.new) (K.room sink.new)) }
+    ensures text { Proceeds (flat_map (due_text history.now) waiting.old.items)
+        (seen_as (K.taken sink.old) (K.faults sink.old) (K.room sink.old)) result []
+        (seen_as (K.taken sink.new) (K.faults sink.new) (K.room sink.new)) }
     ensures waiting { OnOk result (waiting.new.items ≡ filter (waits history.now) waiting.old.items) }
     ensures stands { OnOk result (StandsFor live.new history.now) }
 {
@@ -64,7 +66,9 @@ fn look_over<K: Sink>(
 ) -> Result<(), WriteFault>
     requires stands { StandsFor live.old history.now }
     requires same { AllByRecursion (λ tag. due.is_same changed tag ≡ true → waits history.now tag ≡ true) tags.now }
-    ensures text { Proceeds (out.old.items ++ flat_map (due_text history.now) tags.now) (seen_as (K.taken sink.old) (K.faults sink.old) (K.room sink.old)) result out.new.items (seen_as (K.taken sink.new) (K.faults sink.new) (K.room sink.new)) }
+    ensures text { Proceeds (out.old.items ++ flat_map (due_text history.now) tags.now)
+        (seen_as (K.taken sink.old) (K.faults sink.old) (K.room sink.old)) result out.new.items
+        (seen_as (K.taken sink.new) (K.faults sink.new) (K.room sink.new)) }
     ensures waiting { OnOk result (waiting.new.items ≡ waiting.old.items ++ filter (waits history.now) tags.now) }
     ensures stands { OnOk result (StandsFor live.new history.now) }
 {

@@ -22,7 +22,8 @@ pub(crate) fn write_rest<K: Sink>(
     tags: &[u64],
     sink: &mut K,
 ) -> Result<(), WriteFault>
-    ensures { HasEnded (flat_map (last_text history.now) tags.now ++ lines_of counts.now) result (seen_as (K.taken sink.old) (K.faults sink.old) (K.room sink.old)) (seen_as (K.taken sink.new) (K.faults sink.new) (K.room sink.new)) }
+    ensures { HasEnded (flat_map (last_text history.now) tags.now ++ lines_of counts.now) result (seen_as (K.taken sink.old) (K.faults sink.old) (K.room sink.old))
+        (seen_as (K.taken sink.new) (K.faults sink.new) (K.room sink.new)) }
 {
     let verdicts = Verdicts::on_many(alloc, history)?;
     write_last(alloc, &verdicts, counts, tags, sink)
@@ -36,7 +37,8 @@ fn write_last<K: Sink>(
     tags: &[u64],
     sink: &mut K,
 ) -> Result<(), WriteFault>
-    ensures { HasEnded (flat_map (last_text verdicts.now) tags.now ++ lines_of counts.now) result (seen_as (K.taken sink.old) (K.faults sink.old) (K.room sink.old)) (seen_as (K.taken sink.new) (K.faults sink.new) (K.room sink.new)) }
+    ensures { HasEnded (flat_map (last_text verdicts.now) tags.now ++ lines_of counts.now) result (seen_as (K.taken sink.old) (K.faults sink.old) (K.room sink.old))
+        (seen_as (K.taken sink.new) (K.faults sink.new) (K.room sink.new)) }
 {
     let mut out = Vec::new(alloc);
     write_blocks(alloc, verdicts, tags, sink, &mut out)?;
@@ -52,7 +54,9 @@ fn write_blocks<K: Sink>(
     sink: &mut K,
     out: &mut Vec<u8>,
 ) -> Result<(), WriteFault>
-    ensures { Proceeds (out.old.items ++ flat_map (last_text verdicts.now) tags.now) (seen_as (K.taken sink.old) (K.faults sink.old) (K.room sink.old)) result out.new.items (seen_as (K.taken sink.new) (K.faults sink.new) (K.room sink.new)) }
+    ensures { Proceeds (out.old.items ++ flat_map (last_text verdicts.now) tags.now)
+        (seen_as (K.taken sink.old) (K.faults sink.old) (K.room sink.old)) result out.new.items
+        (seen_as (K.taken sink.new) (K.faults sink.new) (K.room sink.new)) }
 {
     for tag in tags {
         put_with_tag(alloc, verdicts, *tag, out)?;

@@ -1,4 +1,4 @@
-use Rattle.std.proofs.Common.{sym, ◌∙◌}
+use Rattle.std.proofs.Common.{sym}
 use Rattle.decommutator.proofs.DueLemmas.{found-room}
 use Rattle.decommutator.proofs.due.put_due.Goals as goal
 

@@ -1,8 +1,7 @@
-use Rattle.std.proofs.Common.{◌≡◌, [], List, ℕ, Result, Ok, Err, flat_map, sym, subst, ap, ◌∙◌}
+use Rattle.std.proofs.Common.{[], Result, Err, flat_map, sym, subst, ap, ◌∙◌}
 use Rattle.std.proofs.lemmas.Result.{err_from_is_err_and}
 use Rattle.session_record.specs.declared.entry.WriteFault.{WriteFault}
-use Rattle.session_record.specs.declared.entry.WriteFault.TheVariants.{Memory}
-use Rattle.decommutator.specs.Output.{Seen, seen_as, Proceeds}
+use Rattle.decommutator.specs.Output.{seen_as, Proceeds}
 use Rattle.decommutator.specs.Due.{AreRising, new_tag, with_new, due_text}
 use Rattle.decommutator.proofs.OutputLemmas.{memory-stops}
 use Rattle.decommutator.proofs.LookLemmas.{WaitOn, as-it-was}

@@ -1,8 +1,7 @@
-use Rattle.std.proofs.Common.{arith, ◌≡◌, ◌<◌, ◌++◌, List, ℕ, Result, Ok, Err, flat_map, get_or, length, true, sym, subst}
+use Rattle.std.proofs.Common.{arith, ◌≡◌, ◌<◌, ◌++◌, List, ℕ, Result, Ok, Err, flat_map, length, true, sym, subst}
 use Rattle.std.proofs.lemmas.Result.{err_from_is_err_and}
 use Rattle.session_record.specs.declared.entry.WriteFault.{WriteFault}
-use Rattle.session_record.specs.declared.entry.WriteFault.TheVariants.{Memory}
-use Rattle.decommutator.specs.Output.{Seen, seen_as, Proceeds}
+use Rattle.decommutator.specs.Output.{seen_as, Proceeds}
 use Rattle.decommutator.specs.Due.{due_text, waits, is_same}
 use Rattle.decommutator.proofs.OutputLemmas.{memory-stops}
 use Rattle.decommutator.proofs.LookLemmas.{goes-next, stops-next, waits-next, all-next}

@@ -1,4 +1,4 @@
-use Rattle.std.proofs.Common.{◌≡◌, ◌++◌, Result, Ok, filter, flat_map, drop, true}
+use Rattle.std.proofs.Common.{◌≡◌, ◌++◌, Ok, filter, flat_map, drop, true}
 use Rattle.std.specs.List.{AllByRecursion}
 use Rattle.live_verdicts.specs.Marks.{StandsFor}
 use Rattle.decommutator.specs.Due.{due_text, waits, is_same}

@@ -1,9 +1,8 @@
-use Rattle.std.proofs.Common.{◌≡◌, ◌++◌, [], List, ℕ, Result, Ok, Err, flat_map, filter, true, sym, subst, ap, ◌∙◌}
+use Rattle.std.proofs.Common.{◌≡◌, ◌++◌, [], List, ℕ, Result, Ok, Err, flat_map, filter, sym, subst, ap, ◌∙◌}
 use Rattle.std.proofs.lemmas.Result.{err_from_is_err_and}
 use Rattle.session_record.specs.declared.entry.WriteFault.{WriteFault}
-use Rattle.session_record.specs.declared.entry.WriteFault.TheVariants.{Memory}
-use Rattle.decommutator.specs.Output.{Seen, seen_as, Proceeds}
-use Rattle.decommutator.specs.Due.{due_text, waits, is_same}
+use Rattle.decommutator.specs.Output.{seen_as, Proceeds}
+use Rattle.decommutator.specs.Due.{due_text, waits}
 use Rattle.decommutator.proofs.OutputLemmas.{memory-stops}
 use Rattle.decommutator.proofs.LookLemmas.{WaitOn, later-wait, none-due, none-leave, due-later, left-later, gathered, nothing-written, as-it-was, ended, on-ok}
 use Rattle.decommutator.proofs.looking.write_due.Goals as goal

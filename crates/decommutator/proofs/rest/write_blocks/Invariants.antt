@@ -1,4 +1,4 @@
-use Rattle.std.proofs.Common.{◌≡◌, ◌++◌, Result, Ok, flat_map, drop}
+use Rattle.std.proofs.Common.{◌++◌, Ok, flat_map, drop}
 use Rattle.decommutator.specs.Due.{last_text}
 use Rattle.decommutator.specs.Output.{Proceeds, seen_as}
 use Rattle.decommutator.proofs.rest.write_blocks.Given as goal

@@ -1,9 +1,8 @@
-use Rattle.std.proofs.Common.{◌≡◌, ◌++◌, List, ℕ, [], Result, Ok, Err, flat_map, sym, subst}
+use Rattle.std.proofs.Common.{◌++◌, List, ℕ, [], Result, Ok, Err, flat_map, sym, subst}
 use Rattle.std.proofs.lemmas.Result.{err_from_is_err_and}
 use Rattle.session_record.specs.declared.entry.WriteFault.{WriteFault}
-use Rattle.session_record.specs.declared.entry.WriteFault.TheVariants.{Memory}
 use Rattle.block_lines.specs.Counts.{lines_of}
-use Rattle.decommutator.specs.Output.{Seen, seen_as, Proceeds, HasEnded}
+use Rattle.decommutator.specs.Output.{seen_as, Proceeds, HasEnded}
 use Rattle.decommutator.specs.Due.{last_text}
 use Rattle.decommutator.proofs.OutputLemmas.{blocks-failed, lines-failed, text-ended}
 use Rattle.decommutator.proofs.rest.write_last.Goals as goal

@@ -1,4 +1,4 @@
-use Rattle.std.proofs.Common.{◌≡◌, ◌++◌, ◌∷◌, [], ap, sym, ◌∙◌}
+use Rattle.std.proofs.Common.{◌++◌, ap, sym, ◌∙◌}
 use Rattle.decommutator.proofs.TagLemmas.{inserted-between}
 use Rattle.decommutator.proofs.waiting.insert_tag.Goals as goal
 

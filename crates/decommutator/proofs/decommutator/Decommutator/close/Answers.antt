@@ -1,4 +1,4 @@
-use Rattle.std.proofs.Common.{◌≡◌, ◌++◌, List, ℕ, Option, Some, Result, IfSome, flat_map, option_map, sym, subst, ap, ◌∙◌}
+use Rattle.std.proofs.Common.{◌≡◌, ◌++◌, List, ℕ, Option, IfSome, flat_map, option_map, sym, subst, ap, ◌∙◌}
 use Rattle.session_record.specs.Writing.{Writes}
 use Rattle.block_lines.specs.Counts.{lines_of}
 use Rattle.live_verdicts.specs.Marks.{StandsFor}

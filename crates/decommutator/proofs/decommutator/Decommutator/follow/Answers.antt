@@ -1,14 +1,14 @@
-use Rattle.std.proofs.Common.{◌≡◌, ◌+◌, [], List, ℕ, Option, Some, Result, Ok, Err, IfSome, flat_map, option_map, sym, subst, ap, ◌∙◌}
+use Rattle.std.proofs.Common.{◌≡◌, [], Option, Err, IfSome, option_map, sym, subst, ap, ◌∙◌}
 use Rattle.std.proofs.lemmas.Result.{err_from_is_err_and}
 use Rattle.live_verdicts.specs.Marks.{StandsFor}
 use Rattle.decommutator.specs.Standing.{Decommutation, entry_answer}
 use Rattle.decommutator.specs.Following.{followed_text, after_followed}
-use Rattle.decommutator.specs.Output.{Seen, seen_as, Proceeds}
+use Rattle.decommutator.specs.Output.{seen_as}
 use Rattle.decommutator.specs.Follows.{AreWaiting, FollowAnswers}
 use Rattle.decommutator.specs.declared.following.Following.{Following}
 use Rattle.decommutator.specs.declared.fault.FollowFault.TheVariants.{Sent, Write}
 use Rattle.decommutator.proofs.OrderLemmas.{orderly-next}
-use Rattle.decommutator.proofs.FollowLemmas.{stands, text-is, next-is, left-wait, Told, told-done, told-failed}
+use Rattle.decommutator.proofs.FollowLemmas.{stands, text-is, next-is, left-wait, told-done, told-failed}
 use Rattle.decommutator.proofs.decommutator.Decommutator.follow.Goals as goal
 
 pub returns-in_err-came-clause-answer : goal.returns-in_err-came-clause-answer

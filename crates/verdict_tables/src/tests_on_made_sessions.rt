@@ -96,7 +96,7 @@ fn sent(history: &mut History, packet: &[u8]) -> Result<(), Memory> {
     }
 }
 
-/// Receives a report with a tag near the clock.
+/// Receives a report with a tag near the clock. Tags stand close together, so that ranges begin where openings do.
 fn receive(
     alloc: Global,
     history: &mut History,
@@ -106,7 +106,8 @@ fn receive(
 ) -> Result<(), Memory> {
     walk.clock = walk.clock.saturating_add(roll(walk) % 3);
     let late = roll(walk) % 6;
-    let tag = walk.clock.saturating_sub(late).saturating_mul(UNIT);
+    let units = walk.clock.saturating_sub(late);
+    let tag = units.saturating_mul(UNIT).saturating_add(roll(walk) % 2);
     let [service, subtype] = kind;
     let length = data_length(body, 12);
     let mut packet = Vec::new(alloc);
@@ -270,7 +271,7 @@ fn some_tag(walk: &mut Walk) -> u64 {
     let first = if roll(walk) % 8 == 0 { 0 } else { START };
     let units = walk.clock.saturating_sub(first).saturating_add(6).max(1);
     let unit = first.saturating_add(roll(walk) % units);
-    u64::from(unit) * u64::from(UNIT) + u64::from(roll(walk) % 2)
+    u64::from(unit) * u64::from(UNIT) + u64::from(roll(walk) % 3)
 }
 
 fn is_same(a: &Verdict, b: &Verdict) -> bool {

@@ -19,3 +19,5 @@ pub use tables::Tables;
 
 #[cfg(test)]
 mod tests;
+#[cfg(test)]
+mod tests_on_made_sessions;

@@ -14,6 +14,7 @@ use Rattle.session_record.specs.declared.entry.Entry.{Entry}
 use Rattle.session_record.specs.declared.entry.Entry.TheVariants.{Sent, Got, Line}
 use Rattle.session_texts.specs.Sessions.{known_with}
 use Rattle.live_verdicts.specs.Changes.{AreSameBelow}
+use Rattle.live_verdicts.proofs.SameLemmas.{same-all}
 use Rattle.decommutator.specs.Standing.{ground_after}
 use Rattle.decommutator.specs.Due.{came_sent, came_got, came_of, new_tag}
 use Rattle.decommutator.specs.declared.changed.Came.{Came}
@@ -52,7 +53,7 @@ nothing-known g (Line text) one two = refl
 pub same-nothing : (g now : Ground) (e : Entry) → came.Nothing ≡ came_of g e → now ≡ ground_after g e (Ok tt) → AreSameBelow None g now
 same-nothing g now e came known =
     let is : now ≡ g = known ∙ ap (with_history g) (nothing-known g e (ap new_tag (sym came)) (ap is_request (sym came))) in
-    subst (AreSameBelow None g) (sym is) (record { tailoring = refl; openings = λ key tag below. refl })
+    subst (AreSameBelow None g) (sym is) (same-all g)
 
 pub same-request : (g now : Ground) (from : Option ℕ) (e : Entry) → came.Request ≡ came_of g e → now ≡ ground_after g e (Ok tt)
     → ((x : Ground) (packet : List ℕ) → now ≡ with_history x (with_sent (protocol x.tailoring) x.history packet) → AreSameBelow from x now) → AreSameBelow from g now
@@ -75,8 +76,8 @@ same-request g now from (Got packet) came known law = go (got_kind (protocol g.t
 same-request g now from (Line text) came known law = absurd (true≢false (ap is_request came))
 
 pub same-kept : (g now : Ground) (from : Option ℕ) (tag : ℕ) (e : Entry) → came.Kept tag ≡ came_of g e → now ≡ ground_after g e (Ok tt)
-    → ((x : Ground) (packet : List ℕ) → got_kind (protocol x.tailoring) x.history packet ≡ became.Kept tag
-    → now ≡ with_history x (history_with_got x.history packet ((protocol x.tailoring).reception packet)) → AreSameBelow from x now)
+    → ((packet : List ℕ) → got_kind (protocol g.tailoring) g.history packet ≡ became.Kept tag
+    → now ≡ with_history g (history_with_got g.history packet ((protocol g.tailoring).reception packet)) → AreSameBelow from g now)
     → AreSameBelow from g now
 same-kept g now from tag (Sent packet) came known law = go (sent_answer (protocol g.tailoring) g.history packet) (ap new_tag came)
   where
@@ -84,7 +85,7 @@ same-kept g now from tag (Sent packet) came known law = go (sent_answer (protoco
     go (Ok true) e = absurd (none-some tag (sym e))
     go (Ok false) e = absurd (none-some tag (sym e))
     go (Err fault) e = absurd (none-some tag (sym e))
-same-kept g now from tag (Got packet) came known law = law g packet (go (got_kind (protocol g.tailoring) g.history packet) (ap new_tag came)) known
+same-kept g now from tag (Got packet) came known law = law packet (go (got_kind (protocol g.tailoring) g.history packet) (ap new_tag came)) known
   where
     go : (kind : GotKind) → Some tag ≡ new_tag (came_got kind) → kind ≡ became.Kept tag
     go (became.Kept other) e = ap (λ n. became.Kept n) (same_Some other tag (sym e))

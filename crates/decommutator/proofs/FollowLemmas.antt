@@ -3,7 +3,7 @@ use Rattle.std.proofs.Common.{◌≡◌, ℕ, ◌+◌, sym, ◌∙◌, ap, subst
 use Rattle.std.specs.Prelude.{filter, flat_map}
 use Rattle.pus_messages.specs.Messages.{protocol}
 use Rattle.ground_history.specs.Histories.{tag_of}
-use Rattle.ground_history.specs.Ground.{Ground, HaveRisingTags}
+use Rattle.ground_history.specs.Ground.{Ground, IsGrounded, HaveRisingTags}
 use Rattle.session_record.specs.declared.entry.Entry.{Entry}
 use Rattle.session_record.specs.declared.entry.WriteFault.{WriteFault}
 use Rattle.session_texts.specs.Sessions.{known_with}
@@ -44,15 +44,15 @@ step-of live tags came now has =
 -- the tags rise with the new one
 pub come-rise : (live : Live) (tags : List ℕ) (came : Came) (now : Ground) → HasCome live tags came now → AreRising (with_new (new_tag came) tags)
 come-rise live tags came now has =
-    all-rising has.before now tags (record { from = None; new = new_tag came }) has.waiting has.rising has.rising_now (step-of live tags came now has)
+    all-rising has.before now tags (record { from = None; new = new_tag came }) has.waiting has.grounded.tags has.rising_now (step-of live tags came now has)
 
 -- where nothing has changed they wait on
 pub come-same : (live : Live) (tags : List ℕ) (came : Came) (now : Ground) (changed : Changed) → HasCome live tags came now → changed.new ≡ new_tag came
-    → ((g : Ground) (e : Entry) → came ≡ came_of g e → now ≡ ground_after g e (Ok tt) → AreSameBelow changed.from g now) → WaitOn changed now (with_new changed.new tags)
+    → ((g : Ground) (e : Entry) → IsGrounded g → came ≡ came_of g e → now ≡ ground_after g e (Ok tt) → AreSameBelow changed.from g now) → WaitOn changed now (with_new changed.new tags)
 come-same live tags came now changed has new law =
-    all-same has.before now tags changed has.waiting has.rising has.rising_now
+    all-same has.before now tags changed has.waiting has.grounded.tags has.rising_now
     (subst (λ o. Step has.before.history.kept now.history.kept o) (sym new) (step-of live tags came now has))
-    (law has.before has.entry has.brought has.known)
+    (law has.before has.entry has.grounded has.brought has.known)
 
 -- ---- what is written and what stands
 

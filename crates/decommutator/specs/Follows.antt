@@ -2,7 +2,7 @@
 use Rattle.std.specs.Prelude.{◌≡◌, ◌≤◌, ◌-◌, ℕ, List, map, length, false, Option, Some, Result, Ok, Err, IfSome}
 use Rattle.std.specs.List.{AllByRecursion}
 use Rattle.ground_history.specs.Histories.{tag_of}
-use Rattle.ground_history.specs.Ground.{Ground, HaveRisingTags, IsAnswer}
+use Rattle.ground_history.specs.Ground.{Ground, HaveRisingTags, IsAnswer, IsGrounded}
 use Rattle.session_record.specs.Writing.{Writes}
 use Rattle.session_texts.specs.Follow.{is_ready}
 use Rattle.ground_history.specs.declared.answer.SentFault.{SentFault}
@@ -51,7 +51,7 @@ pub record HasCome (live : Live) (tags : List ℕ) (came : Came) (now : Ground) 
   pub entry : Entry
   pub stands : StandsFor live before
   pub waiting : AreWaiting tags before
-  pub rising : HaveRisingTags before.history.kept
+  pub grounded : IsGrounded before
   pub brought : came ≡ came_of before entry
   pub known : now ≡ ground_after before entry (Ok tt)
   pub rising_now : HaveRisingTags now.history.kept

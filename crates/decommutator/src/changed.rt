@@ -1,6 +1,6 @@
 //! What an entry brings, and what it may have changed.
 ghost use Rattle.std.specs.Prelude.{◌≡◌, ℕ, true, Ok, Some};
-ghost use Rattle.ground_history.specs.Ground.{Ground};
+ghost use Rattle.ground_history.specs.Ground.{Ground, IsGrounded};
 ghost use Rattle.session_record.specs.declared.entry.Entry.{Entry};
 ghost use Rattle.live_verdicts.specs.Changes.{IsBelow, AreSameBelow};
 ghost use Rattle.decommutator.specs.Standing.{ground_after};
@@ -49,7 +49,7 @@ impl Came {
 
 /// From which tag on verdicts may have changed.
 fn changed_from(history: &History, came: Came) -> Option<u64>
-    ensures { (g : Ground) (e : Entry) → came ≡ came_of g e → history.now ≡ ground_after g e (Ok tt) → AreSameBelow result g history.now }
+    ensures { (g : Ground) (e : Entry) → IsGrounded g → came ≡ came_of g e → history.now ≡ ground_after g e (Ok tt) → AreSameBelow result g history.now }
 {
     match came {
         Came::Nothing => None,
@@ -60,7 +60,7 @@ fn changed_from(history: &History, came: Came) -> Option<u64>
 
 /// Which reports may have another verdict than before.
 pub(crate) fn changes_by(history: &History, came: Came) -> Changed
-    ensures same { (g : Ground) (e : Entry) → came ≡ came_of g e → history.now ≡ ground_after g e (Ok tt) → AreSameBelow result.from g history.now }
+    ensures same { (g : Ground) (e : Entry) → IsGrounded g → came ≡ came_of g e → history.now ≡ ground_after g e (Ok tt) → AreSameBelow result.from g history.now }
     ensures new { result.new ≡ new_tag came }
 {
     let new = match came {

@@ -210,3 +210,7 @@ same-sent from g r same new =
     cs key start tag below =
         same-candidates from h later (r ∷ []) refl same
         (λ k l u tag below. let only : length h.requests ≡ k = omega (arith, l, u) in subst (λ j. tag ≤ low later j) only (new tag below)) key start tag below
+
+-- Nothing has changed.
+pub same-all : (g : Ground) → AreSameBelow None g g
+same-all g = record { tailoring = refl; known = refl; candidates = λ key start tag below. refl; told = λ key tag below. refl; openings = λ key tag below. refl }

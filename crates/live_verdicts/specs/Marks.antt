@@ -94,6 +94,10 @@ pub record IsNear (h : History) (m : Mark) (tag : ℕ) : Type 0 where
   pub untold : newest_told h.kept < m.tag
   pub next : m.listed < length h.requests → tag ≤ low h m.listed
 
+-- what is held: marks of structures
+abbrev pub Live : Type 0
+Live = List StructureMark
+
 -- What is held stands for what is known: each mark is one of its structure.
-pub record StandsFor (live : List StructureMark) (g : Ground) : Type 0 where
+pub record StandsFor (live : Live) (g : Ground) : Type 0 where
   pub marks : All (λ x. IsMark g x.key x.mark) live

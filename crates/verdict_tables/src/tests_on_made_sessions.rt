@@ -3,7 +3,7 @@ ghost use Rattle.std.specs.Prelude.{◌≡◌, ◌<◌};
 
 use crate::{Steps, Tables};
 use definition_intervals::{Verdict, verdict};
-use ground_history::History;
+use ground_history::{GotKind, History};
 use hk_base::{Definition, Key, Kind, Memory, builtin};
 use std::alloc::Global;
 use std::marker::Brand;
@@ -86,6 +86,7 @@ fn send(
     sent(history, &packet)
 }
 
+/// Takes a packet that is a new request.
 fn sent(history: &mut History, packet: &[u8]) -> Result<(), Memory> {
     if packet.len() > 1_000 {
         return Err(Memory);
@@ -118,12 +119,15 @@ fn receive(
     got(history, &packet)
 }
 
+/// Takes a packet that is a readable report.
 fn got(history: &mut History, packet: &[u8]) -> Result<(), Memory> {
     if packet.len() > 1_000 {
         return Err(Memory);
     }
-    history.got(packet)?;
-    Ok(())
+    match history.got(packet)? {
+        GotKind::Foreign(_) | GotKind::Skipped(_, _) | GotKind::Unread => Err(Memory),
+        _ => Ok(()),
+    }
 }
 
 /// Sends a request on one structure or on two.

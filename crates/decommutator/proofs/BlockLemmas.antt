@@ -1,5 +1,5 @@
 -- What is needed to write the block of a parameter report.
-use Rattle.std.proofs.Common.{◌≡◌, ℕ, sym, subst, List}
+use Rattle.std.proofs.Common.{◌≡◌, ℕ, sym, List}
 use Rattle.hk_base.specs.Fit.{IsFit}
 use Rattle.hk_base.specs.declared.types.Key.{Key}
 use Rattle.ground_history.specs.Ground.{Ground, IsGrounded}

@@ -1,5 +1,5 @@
 -- Verdicts that are counted one by one.
-use Rattle.std.proofs.Common.{arith, ◌≡◌, ◌≤◌, ℕ, ◌+◌, ◌*◌, refl, sym, ◌∙◌, ap, subst, List, [], ◌∷◌, length, cond, Bool, true, false, Option, Some, None}
+use Rattle.std.proofs.Common.{arith, ◌≡◌, ◌≤◌, ℕ, ◌+◌, ◌*◌, refl, sym, ◌∙◌, ap, subst, List, [], ◌∷◌, length, cond, Option, Some}
 use Rattle.std.specs.Prelude.{option_map}
 use Rattle.std.specs.List.{count_by, sum_by, cons_option}
 use Rattle.std.proofs.lemmas.List.Sums.{sum_by-cons}

@@ -1,13 +1,11 @@
 -- The text of what stands for a world.
-use Rattle.std.proofs.Common.{◌≡◌, ◌++◌, List, ℕ, subst, sym, ap, ◌∙◌}
+use Rattle.std.proofs.Common.{◌≡◌, ◌++◌, subst, sym, ap, ◌∙◌}
 use Rattle.hk_base.specs.TailoringParts.{TailoringParts}
 use Rattle.pus_messages.specs.Messages.{protocol}
 use Rattle.hk_world.specs.Worlds.{World, IsWorld}
-use Rattle.ground_history.specs.Histories.{History}
 use Rattle.ground_history.specs.Bounds.{history_in}
 use Rattle.session_texts.specs.Texts.{blocks, count_lines}
 use Rattle.session_texts.specs.Truth.{IsTrueText, kinds_in}
-use Rattle.block_lines.specs.declared.counts.Counts.{Counts}
 use Rattle.block_lines.specs.Counts.{lines_of}
 use Rattle.decommutator.specs.Standing.{Standing, standing_text}
 use Rattle.decommutator.specs.Entries.{IsStandingIn}

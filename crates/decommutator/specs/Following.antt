@@ -1,16 +1,14 @@
 -- Blocks that are written as soon as they can't be taken back, one entry after the other.
-use Rattle.std.specs.Prelude.{◌≡◌, ◌≤◌, ⊤, ℕ, List, [], ◌++◌, filter, flat_map, map, reverse, Bool, not, ◌||◌, Option, Some, Result, Ok, Err, unwrap_or}
+use Rattle.std.specs.Prelude.{◌≡◌, ℕ, List, [], ◌++◌, filter, flat_map, map, reverse, Bool, not, ◌||◌, Some, unwrap_or}
 use Rattle.hk_base.specs.TailoringParts.{TailoringParts}
 use Rattle.pus_messages.specs.Messages.{protocol}
-use Rattle.ground_history.specs.Histories.{Kept, History, tag_of}
-use Rattle.ground_history.specs.declared.answer.SentFault.{SentFault}
+use Rattle.ground_history.specs.Histories.{Kept, tag_of}
 use Rattle.session_record.specs.declared.header.Header.{Header}
 use Rattle.session_record.specs.declared.entry.Entry.{Entry}
-use Rattle.session_record.specs.Writing.{Writes}
 use Rattle.session_texts.specs.Blocks.{block}
 use Rattle.session_texts.specs.Follow.{is_ready, has_tag, known_by, written_tags}
 use Rattle.block_lines.specs.Counts.{lines_of}
-use Rattle.decommutator.specs.Standing.{Standing, Decommutation, with_entry}
+use Rattle.decommutator.specs.Standing.{Decommutation, with_entry}
 use Rattle.decommutator.specs.Entries.{standing_of}
 
 -- the tags of the kept packets whose blocks aren't written

@@ -1,5 +1,5 @@
 -- The values of decided reports, each with its place.
-use Rattle.std.specs.Prelude.{ℕ, ℤ, List, [], filter, filter_map, length, map, zip, Bool, true, false, Option, Some, None, Result, Ok, Err, slice_get}
+use Rattle.std.specs.Prelude.{ℕ, ℤ, List, [], filter, length, map, zip, Bool, true, false, Option, Some, None, Result, Ok, Err, slice_get}
 use Rattle.hk_base.specs.TailoringParts.{TailoringParts}
 use Rattle.hk_base.specs.Payload.{payload_read}
 use Rattle.hk_base.specs.declared.types.Place.{Place}

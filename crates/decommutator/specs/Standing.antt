@@ -1,5 +1,5 @@
 -- What stands for the entries of a session: what is known, what became of packets that weren't kept, and how many entries there were.
-use Rattle.std.specs.Prelude.{ℕ, ◌+◌, ◌≤◌, List, [], ◌++◌, length, flat_map, Bool, Option, Some, None, Result, Ok, Err}
+use Rattle.std.specs.Prelude.{ℕ, ◌+◌, ◌≤◌, List, ◌++◌, length, flat_map, Bool, Option, None, Result, Ok, Err}
 use Rattle.std.specs.List.{count_by, sum_by}
 use Rattle.hk_base.specs.TailoringParts.{TailoringParts}
 use Rattle.pus_messages.specs.Messages.{protocol}

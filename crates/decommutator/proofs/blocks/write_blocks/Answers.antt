@@ -1,10 +1,9 @@
-use Rattle.std.proofs.Common.{◌≡◌, ◌++◌, ◌∷◌, List, ℕ, Result, Ok, Err, flat_map, sym, subst}
+use Rattle.std.proofs.Common.{◌++◌, List, ℕ, Result, Ok, Err, flat_map, sym, subst}
 use Rattle.std.proofs.lemmas.Result.{err_from_is_err_and}
 use Rattle.session_record.specs.declared.entry.WriteFault.{WriteFault}
-use Rattle.session_record.specs.declared.entry.WriteFault.TheVariants.{Memory}
 use Rattle.ground_history.specs.Histories.{Kept}
 use Rattle.session_texts.specs.Blocks.{block}
-use Rattle.decommutator.specs.Output.{Seen, seen_as, Proceeds}
+use Rattle.decommutator.specs.Output.{seen_as, Proceeds}
 use Rattle.decommutator.proofs.OutputLemmas.{memory-stops, stops}
 use Rattle.decommutator.proofs.blocks.write_blocks.Goals as goal
 

@@ -1,4 +1,4 @@
-use Rattle.std.proofs.Common.{◌≡◌, ◌++◌, Result, Ok, flat_map}
+use Rattle.std.proofs.Common.{◌++◌, Ok, flat_map}
 use Rattle.std.specs.List.{AllByRecursion}
 use Rattle.pus_messages.specs.Spelling.{HasRoom}
 use Rattle.ground_history.specs.Histories.{Kept}

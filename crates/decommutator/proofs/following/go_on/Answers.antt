@@ -9,7 +9,7 @@ use Rattle.decommutator.proofs.FollowLemmas.{waiting-rise, come-rise, come-same}
 use Rattle.decommutator.proofs.following.go_on.Goals as goal
 
 pub add_new-requires : goal.add_new-requires
-add_new-requires g c = waiting-rise c.args.waiting.now.items c.requires.before c.requires.waiting c.requires.rising
+add_new-requires g c = waiting-rise c.args.waiting.now.items c.requires.before c.requires.waiting c.requires.grounded.tags
 
 pub returns-in_err-add_new-clause-text : goal.returns-in_err-add_new-clause-text
 returns-in_err-add_new-clause-text g c =
@@ -31,3 +31,8 @@ write_due-requires-clause-same g c =
     let tags = c.args.waiting.now.items in
     subst (WaitOn c.changes_by-changed.result c.args.history.now) (sym c.in_ok-add_new.ensures)
     (come-same c.args.live.now tags c.args.came c.args.history.now c.changes_by-changed.result c.requires c.changes_by-changed.ensures.new c.changes_by-changed.ensures.same)
+
+pub write_due-requires-clause-stands : goal.write_due-requires-clause-stands
+write_due-requires-clause-stands g c =
+    let has = c.requires in
+    c.forget_from.ensures has.before c.args.history.now has.stands (c.changes_by-changed.ensures.same has.before has.entry has.grounded has.brought has.known)

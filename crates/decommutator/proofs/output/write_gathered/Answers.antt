@@ -1,7 +1,7 @@
-use Rattle.std.proofs.Common.{◌≡◌, List, ℕ, [], Result, Ok, Err, subst, sym}
+use Rattle.std.proofs.Common.{List, ℕ, [], Result, Ok, Err, subst, sym}
 use Rattle.std.proofs.lemmas.Result.{err_from_is_err_and}
 use Rattle.session_record.specs.declared.entry.WriteFault.{WriteFault}
-use Rattle.decommutator.specs.Output.{Seen, seen_as, Proceeds}
+use Rattle.decommutator.specs.Output.{seen_as, Proceeds}
 use Rattle.decommutator.proofs.OutputLemmas.{piece-written, piece-failed}
 use Rattle.decommutator.proofs.output.write_gathered.Goals as goal
 

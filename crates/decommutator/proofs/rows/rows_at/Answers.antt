@@ -1,9 +1,8 @@
-use Rattle.std.proofs.Common.{◌<◌, ◌≡◌, ◌++◌, ◌∷◌, [], List, length, get_or, pos, FitsSigned, rules, arith, sym, ap, ◌∙◌, ℤ}
+use Rattle.std.proofs.Common.{◌<◌, ◌++◌, ◌∷◌, [], length, get_or, pos, FitsSigned, rules, arith, sym, ap, ◌∙◌}
 use Rattle.std.specs.Int.{w128}
 use Rattle.std.proofs.lemmas.Int.{to_z-of_z}
 use Rattle.hk_base.specs.Payload.{places}
 use Rattle.decommutator.specs.declared.row.ValueRow.{ValueRow}
-use Rattle.decommutator.specs.Rows.{row_of}
 use Rattle.decommutator.proofs.RowLemmas.{rows-more}
 use Rattle.decommutator.proofs.rows.rows_at.Goals as goal
 

@@ -1,11 +1,9 @@
-use Rattle.std.proofs.Common.{◌≡◌, ◌++◌, List, ℕ, [], Result, Ok, Err, flat_map, sym, subst}
+use Rattle.std.proofs.Common.{◌++◌, List, ℕ, [], Result, Ok, Err, flat_map, sym, subst}
 use Rattle.std.proofs.lemmas.Result.{err_from_is_err_and}
 use Rattle.session_record.specs.declared.entry.WriteFault.{WriteFault}
-use Rattle.session_record.specs.declared.entry.WriteFault.TheVariants.{Memory}
 use Rattle.session_texts.specs.Blocks.{block}
 use Rattle.block_lines.specs.Counts.{lines_of}
-use Rattle.decommutator.specs.Output.{Seen, seen_as, Proceeds, HasEnded}
-use Rattle.decommutator.specs.Standing.{text_by}
+use Rattle.decommutator.specs.Output.{seen_as, Proceeds, HasEnded}
 use Rattle.decommutator.proofs.OutputLemmas.{blocks-failed, lines-failed, text-ended}
 use Rattle.decommutator.proofs.text.write_lines.Goals as goal
 

@@ -1,4 +1,4 @@
-use Rattle.std.proofs.Common.{◌≡◌, [], Option, Err, IfSome, option_map, sym, subst, ap, ◌∙◌}
+use Rattle.std.proofs.Common.{◌≡◌, [], Option, Ok, Err, IfSome, option_map, sym, subst, ap, ◌∙◌}
 use Rattle.std.proofs.lemmas.Result.{err_from_is_err_and}
 use Rattle.live_verdicts.specs.Marks.{StandsFor}
 use Rattle.decommutator.specs.Standing.{Decommutation, entry_answer}
@@ -271,3 +271,7 @@ returns-clause-room g c =
     let from = seen_as (g.K.Sink.taken c.args.sink.now) (g.K.Sink.faults c.args.sink.now) (g.K.Sink.room c.args.sink.now) in
     let after = seen_as (g.K.Sink.taken c.go_on.new.sink) (g.K.Sink.faults c.go_on.new.sink) (g.K.Sink.room c.go_on.new.sink) in
     (told-done _ (followed_text c.args.self e) c.args.self from after text c.in_ok-go_on.ensures.text).1.1
+
+pub returns-clause-answer : goal.returns-clause-answer
+returns-clause-answer g c =
+    subst (λ (d : Decommutation). entry_answer d.standing c.args.entry.now ≡ Ok tt) c.self.view_is c.in_ok-came.ensures.answer

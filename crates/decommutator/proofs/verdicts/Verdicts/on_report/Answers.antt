@@ -1,1 +1,0 @@
-use Rattle.decommutator.proofs.verdicts.Verdicts.on_report.Goals as goal

@@ -1,0 +1,5 @@
+pub mod WrittenLemmas
+pub mod ToldLemmas
+pub mod ReadingLemmas
+pub mod FollowingLemmas
+pub mod RoomLemmas

@@ -1,20 +1,28 @@
 -- What was written, with what is still to come, stays what comes of the record.
 use Rattle.std.proofs.Common.{◌≡◌, ℕ, List, [], ◌∷◌, ◌++◌, Option, Some, None, Result, Ok, Err, refl, sym, ap, subst, ◌∙◌, append_assoc, append-nil}
 use Rattle.std.specs.Prelude.{IfSome, IsSome}
+use Rattle.ground_history.specs.Ground.{IsAnswer}
 use Rattle.ground_history.specs.declared.answer.SentFault.{SentFault}
+use Rattle.ground_history.specs.declared.answer.SentFault.TheVariants as sent
+use Rattle.session_record.specs.Writing.{Writes}
+use Rattle.session_record.specs.declared.entry.WriteFault.{WriteFault as WriteError}
+use Rattle.session_record.specs.declared.entry.WriteFault.TheVariants as write
 use Rattle.session_record.specs.Reading.{Reading, Answers, GoesOn, to_come}
 use Rattle.session_record.specs.Written.{IsWritten, IsPrefixWritten}
 use Rattle.session_record.specs.declared.entry.Entry.{Entry}
 use Rattle.session_record.specs.declared.entry.RecordFault.{RecordFault}
 use Rattle.session_texts.specs.declared.problem.RecordProblem.{RecordProblem}
 use Rattle.decommutator.specs.Standing.{Decommutation, entry_answer}
+use Rattle.decommutator.specs.Follows.{FollowAnswers, FollowWrites, FollowCounts}
+use Rattle.decommutator.specs.declared.fault.FollowFault.{FollowFault}
+use Rattle.decommutator.specs.declared.fault.FollowFault.TheVariants.{Sent, Write}
 use Rattle.decommutator.specs.Following.{followed_text, after_followed, closing_text}
 use Rattle.followed_records.specs.Told.{Told, told_text, told_problem}
-use Rattle.followed_records.specs.Faults.{fault_of_reading}
-use Rattle.followed_records.specs.Following.{told_after, told_by, told_end, told_entry, told_rest, Closes, Follows, FollowsAll, FollowsEntry, FollowsUntil, IsFollowedAsGiven}
+use Rattle.followed_records.specs.Faults.{fault_of_entry, fault_of_following, fault_of_writing}
+use Rattle.followed_records.specs.Following.{told_after, told_by, told_end, told_entry, told_rest, Closes, Follows, FollowsAll, FollowsEntry, FollowsUntil, SinkCounts}
 use Rattle.followed_records.specs.declared.fault.FollowingFault.{FollowingFault}
 use Rattle.followed_records.specs.declared.fault.FollowingFault.TheVariants.{Record, ReadFault, WriteFault, Memory}
-use Rattle.followed_records.proofs.WrittenLemmas.{written_none, written_then, written_as, prefix_as, prefix_part, prefix_behind}
+use Rattle.followed_records.proofs.WrittenLemmas.{written_none, written_then, written_as, prefix_as, prefix_none, prefix_part, prefix_behind}
 use Rattle.followed_records.proofs.ToldLemmas.{after_none, after_twice}
 use Rattle.followed_records.proofs.ReadingLemmas.{none_told, entry_next, end_next}
 
@@ -69,7 +77,7 @@ on_next T (Some octets) d later r s (Some m) (Some a) before now after x keeps a
       refl,
     )
 
-text_after : (done : List ℕ) (x y : Told) → x ≡ told_after done y → told_text x ≡ done ++ told_text y
+pub text_after : (done : List ℕ) (x y : Told) → x ≡ told_after done y → told_text x ≡ done ++ told_text y
 text_after done x y is = ap told_text is ∙ append_assoc done y.blocks y.ending
 
 -- what was written up to a fault of what was still to come
@@ -156,3 +164,40 @@ closes T octets later left between before now after (Err WriteFault) all h =
     prefix_as before after (all.0 ++ closing_text later) (told_text (T octets)) (ap told_text all.1) (prefix_behind before now after all.0 (closing_text later) all.2 h)
 closes T octets later left between before now after (Err Memory) all h =
     prefix_as before after (all.0 ++ closing_text later) (told_text (T octets)) (ap told_text all.1) (prefix_behind before now after all.0 (closing_text later) all.2 h)
+
+-- an entry that is refused
+pub entry_refused : (d : Decommutation) (offset : ℕ) (e : Entry) (before after : Option (List ℕ)) (f : SentFault) → IsAnswer {X = Unit} (entry_answer d.standing e) (Err f) → after ≡ before
+    → FollowsEntry (Err (fault_of_entry f offset)) d offset e before after
+entry_refused d offset e before after sent.Memory answer is =
+    λ rest. let text = told_text (told_entry d offset e rest) in subst (λ (o : Option (List ℕ)). IsPrefixWritten before text o) (sym is) (prefix_none before text)
+entry_refused d offset e before after sent.BadRequest answer is = (λ rest. ap (λ a. told_by offset a (followed_text d e) rest) answer, is)
+entry_refused d offset e before after (sent.WrongCount a b) answer is = (λ rest. ap (λ a. told_by offset a (followed_text d e) rest) answer, is)
+entry_refused d offset e before after (sent.Reused a) answer is = (λ rest. ap (λ a. told_by offset a (followed_text d e) rest) answer, is)
+entry_refused d offset e before after sent.SessionFull answer is = (λ rest. ap (λ a. told_by offset a (followed_text d e) rest) answer, is)
+entry_refused d offset e before after (sent.WindowFull k) answer is = (λ rest. ap (λ a. told_by offset a (followed_text d e) rest) answer, is)
+
+-- an entry whose blocks weren't written whole
+pub entry_unwritten : (d : Decommutation) (offset : ℕ) (e : Entry) (before after : Option (List ℕ)) (f : WriteError) → entry_answer d.standing e ≡ Ok tt → Writes (followed_text d e) (Err f) before after
+    → FollowsEntry (Err (fault_of_writing f)) d offset e before after
+entry_unwritten d offset e before after write.Failed ok part = (ok, part)
+entry_unwritten d offset e before after write.Memory ok part =
+    λ rest.
+    let text = followed_text d e in
+    prefix_as before after (text ++ told_text rest) (told_text (told_entry d offset e rest)) (text_after text (told_entry d offset e rest) rest (entry_taken d offset e rest ok)) (prefix_part before after text (told_text rest) part)
+
+-- an entry that wasn't followed, by its fault
+pub entry_failed : (d : Decommutation) (offset : ℕ) (e : Entry) (before after : Option (List ℕ)) (f : FollowFault) → FollowAnswers {X = Decommutation} (entry_answer d.standing e) (Err f)
+    → FollowWrites {X = Decommutation} (followed_text d e) (Err f) before after → FollowsEntry (Err (fault_of_following f offset)) d offset e before after
+entry_failed d offset e before after (Sent f) answer writes = entry_refused d offset e before after f answer writes
+entry_failed d offset e before after (Write f) answer writes = entry_unwritten d offset e before after f answer writes
+
+-- the count of the sink by that fault
+pub counts_failed : (f : FollowFault) (offset before now : ℕ) → FollowCounts {X = Decommutation} (Err f) before now → SinkCounts {X = Decommutation} (Err (fault_of_following f offset)) before now
+counts_failed (Sent sent.Memory) offset before now is = is
+counts_failed (Sent sent.BadRequest) offset before now is = is
+counts_failed (Sent (sent.WrongCount a b)) offset before now is = is
+counts_failed (Sent (sent.Reused a)) offset before now is = is
+counts_failed (Sent sent.SessionFull) offset before now is = is
+counts_failed (Sent (sent.WindowFull k)) offset before now is = is
+counts_failed (Write write.Failed) offset before now is = is
+counts_failed (Write write.Memory) offset before now is = is

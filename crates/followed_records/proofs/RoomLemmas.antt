@@ -8,7 +8,15 @@ use Rattle.session_record.specs.declared.entry.RecordFault.TheVariants as fault
 use Rattle.decommutator.specs.Standing.{Decommutation, entry_answer}
 use Rattle.decommutator.specs.Following.{followed_text, after_followed, closing_text}
 use Rattle.followed_records.specs.Told.{Told, told_text}
-use Rattle.followed_records.specs.Faults.{fault_of_reading}
+use Rattle.session_record.specs.declared.entry.WriteFault.{WriteFault as WriteError}
+use Rattle.session_record.specs.declared.entry.WriteFault.TheVariants as write
+use Rattle.ground_history.specs.declared.answer.SentFault.{SentFault}
+use Rattle.ground_history.specs.declared.answer.SentFault.TheVariants as sent
+use Rattle.decommutator.specs.Output.{FinishesWithin}
+use Rattle.decommutator.specs.Follows.{FollowsWithin}
+use Rattle.decommutator.specs.declared.fault.FollowFault.{FollowFault}
+use Rattle.decommutator.specs.declared.fault.FollowFault.TheVariants.{Sent, Write}
+use Rattle.followed_records.specs.Faults.{fault_of_entry, fault_of_following, fault_of_reading, fault_of_writing}
 use Rattle.followed_records.specs.Following.{told_end, told_entry, told_rest, told_after, FollowsEntry, HasRoomLeft, LeavesRoom}
 use Rattle.followed_records.specs.declared.fault.FollowingFault.{FollowingFault}
 use Rattle.followed_records.specs.declared.fault.FollowingFault.TheVariants.{Record, ReadFault, WriteFault, Memory}
@@ -120,3 +128,25 @@ room_end T (Some octets) (Some whole) d r s (Some m) None now keeps answers = λ
 room_end T (Some octets) (Some whole) d r s (Some m) (Some a) None keeps answers = λ enough. absurd (no_room (keeps enough).0.1)
 room_end T (Some octets) (Some whole) d r s (Some m) (Some a) (Some free) keeps answers =
     λ enough. (end_size d (told_rest d (to_come r m)) free (end_next d (to_come r m) answers.0.1) (keeps enough).0.0, refl)
+
+-- an entry whose blocks weren't written whole
+pub unwritten_room : (text : List ℕ) (f : WriteError) (before after : Option ℕ) → FinishesWithin text (Err f) before
+    → IfSome before (λ room. length text ≤ room → LeavesRoom (Err (fault_of_writing f)) text room after)
+unwritten_room text f None after within = tt
+unwritten_room text write.Failed (Some room) after within = within
+unwritten_room text write.Memory (Some room) after within = λ enough. tt
+
+refused_room : (text : List ℕ) (f : SentFault) (offset room : ℕ) (after : Option ℕ) → LeavesRoom (Err (fault_of_entry f offset)) text room after
+refused_room text sent.Memory offset room after = tt
+refused_room text sent.BadRequest offset room after = tt
+refused_room text (sent.WrongCount a b) offset room after = tt
+refused_room text (sent.Reused a) offset room after = tt
+refused_room text sent.SessionFull offset room after = tt
+refused_room text (sent.WindowFull k) offset room after = tt
+
+-- an entry that wasn't followed, by its fault
+pub failed_room : (text : List ℕ) (f : FollowFault) (offset : ℕ) (before after : Option ℕ) → FollowsWithin {X = Decommutation} text (Err f) before after
+    → IfSome before (λ room. length text ≤ room → LeavesRoom (Err (fault_of_following f offset)) text room after)
+failed_room text (Write f) offset before after within = unwritten_room text f before after within
+failed_room text (Sent f) offset None after within = tt
+failed_room text (Sent f) offset (Some room) after within = λ enough. refused_room text f offset room after

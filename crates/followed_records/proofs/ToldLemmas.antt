@@ -104,6 +104,24 @@ one_refused p h entries earlier offset e later found text answer rest f wrong is
 newest : (e : Entry) (earlier : List Entry) → reverse (e ∷ earlier) ≡ reverse earlier ++ e ∷ []
 newest e earlier = reverse-append (e ∷ []) earlier
 
+-- one more entry, by what the rest comes to
+one_more : IsPromised → (t : TailoringParts) (h : Header) (earlier : List Entry) (offset : ℕ) (e : Entry) (later : List (ℕ × Entry)) (fault : Option RecordFault) (d : Decommutation) → IsFollowing t h earlier d
+    → Agrees offset (entry_answer d.standing e) (entry_problem (protocol d.standing.tailoring) d.standing.history offset e)
+    → told_after (followed (protocol t) h (e ∷ earlier)) (told_entries (after_followed d e) later fault) ≡ told_later (protocol t) h (reverse (e ∷ earlier)) later (option_map problem.Format fault)
+    → told_after (followed (protocol t) h earlier) (told_entries d ((offset, e) ∷ later) fault) ≡ told_later (protocol t) h (reverse earlier) ((offset, e) ∷ later) (option_map problem.Format fault)
+one_more laws t h earlier offset e later fault d is (inl a) rest_is =
+    let p = protocol t in
+    let next = after_followed d e in
+    let rest = told_entries next later fault in
+    let found = option_map problem.Format fault in
+    let fine : entry_problem p (known_after p h (reverse earlier)) offset e ≡ None = sym (ap (λ (s : Standing). entry_problem (protocol s.tailoring) s.history offset e) is.standing) ∙ a.1 in
+    one_taken p h (reverse earlier) offset e later found (followed p h earlier) (followed_text d e) (entry_answer d.standing e) rest a.0 fine
+    (ap (λ xs. told_after (followed p h earlier ++ xs) rest) (laws.text t h earlier d e is) ∙ (rest_is ∙ ap (λ es. told_later p h es later found) (newest e earlier)))
+one_more laws t h earlier offset e later fault d is (inr a) rest_is =
+    let p = protocol t in
+    let wrong : entry_problem p (known_after p h (reverse earlier)) offset e ≡ Some (problem.Entry a.0 offset) = sym (ap (λ (s : Standing). entry_problem (protocol s.tailoring) s.history offset e) is.standing) ∙ a.2 in
+    one_refused p h earlier (reverse earlier) offset e later (option_map problem.Format fault) (followed_text d e) (entry_answer d.standing e) (told_entries (after_followed d e) later fault) a.0 a.1 wrong (reverse-reverse earlier)
+
 -- entries after others come to what the definitions give them
 told_are : IsPromised → (t : TailoringParts) (h : Header) (earlier : List Entry) (list : List (ℕ × Entry)) (fault : Option RecordFault) (d : Decommutation) → IsFollowing t h earlier d
     → told_after (followed (protocol t) h earlier) (told_entries d list fault) ≡ told_later (protocol t) h (reverse earlier) list (option_map problem.Format fault)
@@ -116,24 +134,8 @@ told_are laws t h earlier [] None d is =
 told_are laws t h earlier [] (Some f) d is =
     after_none (followed (protocol t) h earlier) [] (Some (problem.Format f))
     ∙ ap (λ es. record { blocks = followed (protocol t) h es; ending = []; problem = Some (problem.Format f) }) (sym (reverse-reverse earlier))
-told_are laws t h earlier ((offset, e) ∷ later) fault d is = by_agreement (agrees d.standing offset e)
-  where
-    by_agreement : Agrees offset (entry_answer d.standing e) (entry_problem (protocol d.standing.tailoring) d.standing.history offset e)
-        → told_after (followed (protocol t) h earlier) (told_entries d ((offset, e) ∷ later) fault) ≡ told_later (protocol t) h (reverse earlier) ((offset, e) ∷ later) (option_map problem.Format fault)
-    by_agreement (inl a) =
-        let p = protocol t in
-        let next = after_followed d e in
-        let rest = told_entries next later fault in
-        let found = option_map problem.Format fault in
-        let fine : entry_problem p (known_after p h (reverse earlier)) offset e ≡ None = sym (ap (λ (s : Standing). entry_problem (protocol s.tailoring) s.history offset e) is.standing) ∙ a.1 in
-        one_taken p h (reverse earlier) offset e later found (followed p h earlier) (followed_text d e) (entry_answer d.standing e) rest a.0 fine
-        (ap (λ xs. told_after (followed p h earlier ++ xs) rest) (laws.text t h earlier d e is)
-        ∙ (told_are laws t h (e ∷ earlier) later fault next (laws.next t h earlier d e is)
-        ∙ ap (λ es. told_later p h es later found) (newest e earlier)))
-    by_agreement (inr a) =
-        let p = protocol t in
-        let wrong : entry_problem p (known_after p h (reverse earlier)) offset e ≡ Some (problem.Entry a.0 offset) = sym (ap (λ (s : Standing). entry_problem (protocol s.tailoring) s.history offset e) is.standing) ∙ a.2 in
-        one_refused p h earlier (reverse earlier) offset e later (option_map problem.Format fault) (followed_text d e) (entry_answer d.standing e) (told_entries (after_followed d e) later fault) a.0 a.1 wrong (reverse-reverse earlier)
+told_are laws t h earlier ((offset, e) ∷ later) fault d is =
+    one_more laws t h earlier offset e later fault d is (agrees d.standing offset e) (told_are laws t h (e ∷ earlier) later fault (after_followed d e) (laws.next t h earlier d e is))
 
 -- what stands before the first entry of what octets are read as
 abbrev pub start_of : TailoringParts → Result (Header × Entries) RecordFault → Decommutation

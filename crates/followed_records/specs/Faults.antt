@@ -6,6 +6,8 @@ use Rattle.session_record.specs.declared.entry.RecordFault.{RecordFault}
 use Rattle.session_record.specs.declared.entry.RecordFault.TheVariants as fault
 use Rattle.session_record.specs.declared.entry.WriteFault.{WriteFault}
 use Rattle.session_record.specs.declared.entry.WriteFault.TheVariants as write
+use Rattle.decommutator.specs.declared.fault.FollowFault.{FollowFault}
+use Rattle.decommutator.specs.declared.fault.FollowFault.TheVariants.{Sent, Write}
 use Rattle.session_texts.specs.declared.problem.RecordProblem.TheVariants.{Format, Entry}
 use Rattle.followed_records.specs.declared.fault.FollowingFault.{FollowingFault}
 use Rattle.followed_records.specs.declared.fault.FollowingFault.TheVariants.{Record, ReadFault, WriteFault as Unwritten, Memory}
@@ -33,3 +35,8 @@ fault_of_entry (sent.WindowFull number) offset = Record (Entry (sent.WindowFull 
 abbrev pub fault_of_writing : WriteFault → FollowingFault
 fault_of_writing write.Failed = Unwritten
 fault_of_writing write.Memory = Memory
+
+-- an entry at an offset that wasn't followed
+abbrev pub fault_of_following : FollowFault → ℕ → FollowingFault
+fault_of_following (Sent f) offset = fault_of_entry f offset
+fault_of_following (Write f) offset = fault_of_writing f

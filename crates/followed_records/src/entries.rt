@@ -8,7 +8,7 @@ ghost use Rattle.followed_records.specs.Told.{told_text};
 ghost use Rattle.followed_records.specs.Following.{told_rest, Closes, FollowsAll, FollowsEntry, HasRoomLeft, IsUnfailed, LeavesRoom, SinkCounts};
 
 use crate::fault::FollowingFault;
-use decommutator::{Decommutator, FollowFault};
+use decommutator::Decommutator;
 use hk_base::{Shelf, Sink};
 use session_record::{Entry, RecordReader};
 
@@ -51,8 +51,7 @@ pub(crate) fn follow_entry<K: Sink>(
 {
     match session.follow(entry, sink) {
         Ok(later) => Ok(later),
-        Err(FollowFault::Sent(fault)) => Err(FollowingFault::of_entry(fault, offset)),
-        Err(FollowFault::Write(fault)) => Err(fault.into()),
+        Err(fault) => Err(FollowingFault::of_following(fault, offset)),
     }
 }
 

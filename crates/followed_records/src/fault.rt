@@ -1,8 +1,9 @@
 //! Why not all of a record was followed.
 ghost use Rattle.std.specs.Prelude.{◌≡◌};
-ghost use Rattle.followed_records.specs.Faults.{fault_of_entry, fault_of_reading, fault_of_writing};
+ghost use Rattle.followed_records.specs.Faults.{fault_of_entry, fault_of_following, fault_of_reading, fault_of_writing};
 ghost use Rattle.followed_records.specs.declared.fault.FollowingFault.TheVariants as following;
 
+use decommutator::FollowFault;
 use ground_history::SentFault;
 use hk_base::Memory;
 use session_record::{RecordFault, WriteFault};
@@ -60,6 +61,16 @@ impl FollowingFault {
         match fault {
             SentFault::Memory => FollowingFault::Memory,
             fault => FollowingFault::Record(RecordProblem::Entry(fault, offset)),
+        }
+    }
+
+    /// An entry at this offset that wasn't followed.
+    pub fn of_following(fault: FollowFault, offset: u64) -> FollowingFault
+        ensures { result ≡ fault_of_following fault offset }
+    {
+        match fault {
+            FollowFault::Sent(fault) => FollowingFault::of_entry(fault, offset),
+            FollowFault::Write(fault) => fault.into(),
         }
     }
 }

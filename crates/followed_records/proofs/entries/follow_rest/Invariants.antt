@@ -7,8 +7,8 @@ use Rattle.followed_records.proofs.FollowingLemmas.{KeepsOn}
 use Rattle.followed_records.proofs.RoomLemmas.{KeepsRoom}
 use Rattle.followed_records.proofs.entries.follow_rest.Given as goal
 
-abbrev pub invariant-loop-offset : goal.invariant-loop-offset
-invariant-loop-offset g l = record {
+abbrev pub invariant-loop-session : goal.invariant-loop-session
+invariant-loop-session g l = record {
   followed : KeepsOn (λ more. told_rest l.fn.start (to_come l.fn.reader more)) (g.F.Shelf.rest l.fn.shelf) l.session l.reader (g.F.Shelf.rest l.shelf) (g.K.Sink.taken l.fn.sink) (g.K.Sink.taken l.sink);
   room : KeepsRoom (λ more. told_rest l.fn.start (to_come l.fn.reader more)) (g.F.Shelf.rest l.fn.shelf) (g.K.Sink.room l.fn.sink) l.session l.reader (g.F.Shelf.rest l.shelf) (g.K.Sink.room l.sink);
   few : l.session.standing.entries + l.reader.room ≤ most_entries;
@@ -18,5 +18,5 @@ invariant-loop-offset g l = record {
   sound : g.F.Shelf.is_sound l.fn.shelf → g.F.Shelf.is_sound l.shelf;
 }
 
-abbrev pub decreases-loop-offset : goal.decreases-loop-offset
-decreases-loop-offset g l = l.reader.room
+abbrev pub decreases-loop-session : goal.decreases-loop-session
+decreases-loop-session g l = l.reader.room

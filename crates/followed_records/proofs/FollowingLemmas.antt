@@ -201,3 +201,47 @@ counts_failed (Sent sent.SessionFull) offset before now is = is
 counts_failed (Sent (sent.WindowFull k)) offset before now is = is
 counts_failed (Write write.Failed) offset before now is = is
 counts_failed (Write write.Memory) offset before now is = is
+
+-- what was written by how what was still to come ended
+pub behind_all : (T U : List ℕ → Told) (octets given rest done : List ℕ) (left before now after : Option (List ℕ)) (result : Result Unit FollowingFault)
+    → octets ≡ given ++ rest → ((more : List ℕ) → T (given ++ more) ≡ told_after done (U more)) → IsWritten before done now
+    → Follows result U rest left now after → Follows result T octets left before after
+behind_all T U octets given rest done left before now after (Ok unit) split onward written h =
+    let is = ap T split ∙ onward rest in (
+      ap (λ (x : Told). x.problem) is ∙ h.0,
+      written_as before after (done ++ told_text (U rest)) (told_text (T octets)) (text_after done (T octets) (U rest) is) (written_then before now after done (told_text (U rest)) written h.1),
+    )
+behind_all T U octets given rest done left before now after (Err fault) split onward written h = behind T U octets given rest done left before now after fault split onward written h
+
+-- what comes of an entry and of what is still to come after it
+abbrev pub told_from : Decommutation → ℕ → Entry → Reading → List ℕ → Told
+told_from d offset e r more = told_entry d offset e (told_rest (after_followed d e) (to_come r more))
+
+from_taken : (d later : Decommutation) (offset : ℕ) (e : Entry) (r : Reading) (before now : Option (List ℕ)) → FollowsEntry (Ok later) d offset e before now
+    → (more : List ℕ) → told_from d offset e r more ≡ told_after (followed_text d e) (told_rest later (to_come r more))
+from_taken d later offset e r before now entry more =
+    entry_taken d offset e (told_rest (after_followed d e) (to_come r more)) entry.0 ∙ ap (λ (y : Decommutation). told_after (followed_text d e) (told_rest y (to_come r more))) (sym entry.1)
+
+-- the first entry wasn't followed
+pub from_ends : (rest : Option (List ℕ)) (d : Decommutation) (offset : ℕ) (e : Entry) (r : Reading) (left before after : Option (List ℕ)) (fault : FollowingFault)
+    → FollowsEntry (Err fault) d offset e before after → IfSome rest (λ octets. Follows (Err fault) (λ more. told_from d offset e r more) octets left before after)
+from_ends None d offset e r left before after fault entry = tt
+from_ends (Some octets) d offset e r left before after fault entry =
+    entry_ends (λ more. told_from d offset e r more) octets d offset e (told_rest (after_followed d e) (to_come r octets)) left before after fault refl entry
+
+-- it was, and a later one wasn't
+pub from_until : (rest : Option (List ℕ)) (d later : Decommutation) (offset : ℕ) (e : Entry) (r : Reading) (left before now after : Option (List ℕ)) (fault : FollowingFault)
+    → FollowsEntry (Ok later) d offset e before now → IfSome rest (λ octets. FollowsUntil fault (λ more. told_rest later (to_come r more)) octets left now after)
+    → IfSome rest (λ octets. Follows (Err fault) (λ more. told_from d offset e r more) octets left before after)
+from_until None d later offset e r left before now after fault entry h = tt
+from_until (Some octets) d later offset e r left before now after fault entry h =
+    behind (λ more. told_from d offset e r more) (λ more. told_rest later (to_come r more)) octets [] octets (followed_text d e) left before now after fault refl (from_taken d later offset e r before now entry) entry.2 h
+
+-- all were, and then the end was written
+pub from_all : (rest : Option (List ℕ)) (d later last : Decommutation) (offset : ℕ) (e : Entry) (r : Reading) (left before now then after : Option (List ℕ)) (result : Result Unit FollowingFault)
+    → FollowsEntry (Ok later) d offset e before now → IfSome rest (λ octets. FollowsAll (Ok last) (λ more. told_rest later (to_come r more)) octets left now then)
+    → Closes result (closing_text last) then after → IfSome rest (λ octets. Follows result (λ more. told_from d offset e r more) octets left before after)
+from_all None d later last offset e r left before now then after result entry h end = tt
+from_all (Some octets) d later last offset e r left before now then after result entry h end =
+    behind_all (λ more. told_from d offset e r more) (λ more. told_rest later (to_come r more)) octets [] octets (followed_text d e) left before now after result refl (from_taken d later offset e r before now entry) entry.2
+    (closes (λ more. told_rest later (to_come r more)) octets last left left now then after result h end)

@@ -3,3 +3,4 @@ pub mod ToldLemmas
 pub mod ReadingLemmas
 pub mod FollowingLemmas
 pub mod RoomLemmas
+pub mod StartLemmas

@@ -17,11 +17,11 @@ use Rattle.decommutator.specs.Follows.{FollowsWithin}
 use Rattle.decommutator.specs.declared.fault.FollowFault.{FollowFault}
 use Rattle.decommutator.specs.declared.fault.FollowFault.TheVariants.{Sent, Write}
 use Rattle.followed_records.specs.Faults.{fault_of_entry, fault_of_following, fault_of_reading, fault_of_writing}
-use Rattle.followed_records.specs.Following.{told_end, told_entry, told_rest, told_after, FollowsEntry, HasRoomLeft, LeavesRoom}
+use Rattle.followed_records.specs.Following.{told_end, told_entry, told_rest, told_after, FollowsEntry, HasRoomLeft, IsUnfailed, LeavesRoom}
 use Rattle.followed_records.specs.declared.fault.FollowingFault.{FollowingFault}
 use Rattle.followed_records.specs.declared.fault.FollowingFault.TheVariants.{Record, ReadFault, WriteFault, Memory}
 use Rattle.followed_records.proofs.ReadingLemmas.{none_told, entry_next, end_next}
-use Rattle.followed_records.proofs.FollowingLemmas.{entry_taken, text_after}
+use Rattle.followed_records.proofs.FollowingLemmas.{entry_taken, text_after, told_from}
 
 -- where the room is told and enough for all that comes, it is enough for what is still to come
 abbrev pub KeepsRoom : (List ℕ → Told) → Option (List ℕ) → Option ℕ → Decommutation → Reading → Option (List ℕ) → Option ℕ → Type 0
@@ -150,3 +150,47 @@ pub failed_room : (text : List ℕ) (f : FollowFault) (offset : ℕ) (before aft
 failed_room text (Write f) offset before after within = unwritten_room text f before after within
 failed_room text (Sent f) offset None after within = tt
 failed_room text (Sent f) offset (Some room) after within = λ enough. refused_room text f offset room after
+
+pub with_map : (T : List ℕ → Told) (was : Option (List ℕ)) (room : Option ℕ) (P Q : Type 0) → (P → Q) → WithRoom T was room P → WithRoom T was room Q
+with_map T None room P Q f h = tt
+with_map T (Some octets) None P Q f h = tt
+with_map T (Some octets) (Some whole) P Q f h = λ enough. f (h enough)
+
+pub unfailed : (fault : FollowingFault) (after : Option ℕ) → HasRoomLeft (Err fault) after → IsUnfailed (Err fault)
+unfailed (Record found) after h = tt
+unfailed ReadFault after h = tt
+unfailed WriteFault after h = h
+unfailed Memory after h = tt
+
+-- the first entry wasn't followed
+pub from_fails : (rest : Option (List ℕ)) (room after : Option ℕ) (d : Decommutation) (offset : ℕ) (e : Entry) (r : Reading) (fault : FollowingFault) (before taken : Option (List ℕ))
+    → FollowsEntry (Err fault) d offset e before taken → IfSome room (λ free. length (followed_text d e) ≤ free → LeavesRoom (Err fault) (followed_text d e) free after)
+    → WithRoom (λ more. told_from d offset e r more) rest room (IsUnfailed (Err fault))
+from_fails None room after d offset e r fault before taken entry leaves = tt
+from_fails (Some octets) None after d offset e r fault before taken entry leaves = tt
+from_fails (Some octets) (Some free) after d offset e r fault before taken entry leaves =
+    λ enough.
+    let rest = told_rest (after_followed d e) (to_come r octets) in
+    unfailed fault after (entry_room d offset e (told_entry d offset e rest) rest fault free before taken after refl enough entry leaves)
+
+-- what holds with room for what is still to come after the first entry
+pub from_room : (rest : Option (List ℕ)) (room between : Option ℕ) (d later : Decommutation) (offset : ℕ) (e : Entry) (r : Reading) (before taken : Option (List ℕ)) (P : Type 0)
+    → FollowsEntry (Ok later) d offset e before taken → IfSome room (λ free. length (followed_text d e) ≤ free → LeavesRoom (Ok later) (followed_text d e) free between)
+    → WithRoom (λ more. told_rest later (to_come r more)) rest between P → WithRoom (λ more. told_from d offset e r more) rest room P
+from_room None room between d later offset e r before taken P entry leaves h = tt
+from_room (Some octets) None between d later offset e r before taken P entry leaves h = tt
+from_room (Some octets) (Some free) between d later offset e r before taken P entry leaves h =
+    λ enough.
+    let rest = told_rest (after_followed d e) (to_come r octets) in
+    let fits = entry_fits (told_entry d offset e rest) rest d offset e free refl entry.0 enough in
+    let size : length (told_text rest) ≡ length (told_text (told_rest later (to_come r octets))) = ap (λ (y : Decommutation). length (told_text (told_rest y (to_come r octets)))) (sym entry.1) in
+    let is : between ≡ Some (free - length (followed_text d e)) = leaves (omega (arith, fits)) in
+    let then : WithRoom (λ more. told_rest later (to_come r more)) (Some octets) (Some (free - length (followed_text d e))) P =
+    subst (λ (o : Option ℕ). WithRoom (λ more. told_rest later (to_come r more)) (Some octets) o P) is h in
+    then (omega (arith, fits, size))
+
+-- with room for the end it is written
+pub end_room : (last : Decommutation) (room : Option ℕ) (result : Result Unit FollowingFault) → IfSome room (λ free. length (closing_text last) ≤ free → IsUnfailed result)
+    → HasRoomLeft (Ok last) room → IsUnfailed result
+end_room last None result closes left = absurd (no_room left.1)
+end_room last (Some free) result closes left = closes left.0

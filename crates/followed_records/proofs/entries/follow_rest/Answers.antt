@@ -144,4 +144,10 @@ loop-session-preserved g c =
 
 pub returns-clause-room : goal.returns-clause-room
 returns-clause-room g c =
-    ?
+    let r = c.loop-session.reader in
+    let s = c.next.new.self in
+    let rest = g.F.Shelf.rest c.loop-session.shelf in
+    let left = g.F.Shelf.rest c.next.new.shelf in
+    let answer = subst (λ (o : Option (ℕ × Entry)). Answers (Ok o) r rest s left) c.in_default.is c.in_ok-offset.ensures.answer in
+    room_end (λ more. told_rest c.args.start (to_come c.args.reader.now more)) (g.F.Shelf.rest c.args.shelf.now) (g.K.Sink.room c.args.sink.now) c.loop-session.session r s rest left
+    (g.K.Sink.room c.loop-session.sink) c.loop-session.invariant.room answer

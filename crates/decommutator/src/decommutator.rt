@@ -1,5 +1,5 @@
 //! What stands for the entries of a session.
-ghost use Rattle.std.specs.Prelude.{◌≡◌, ◌≤◌, ◌<◌, ◌^◌, [], Some, IfOk, IfSome, IsSome, length};
+ghost use Rattle.std.specs.Prelude.{◌≡◌, ◌≤◌, ◌<◌, ◌^◌, [], Some, IfOk, IfSome, length};
 ghost use Rattle.ground_history.specs.Ground.{IsAnswer, IsGrounded};
 ghost use Rattle.session_record.specs.Records.{held_octets};
 ghost use Rattle.session_record.specs.Writing.{Writes};
@@ -9,11 +9,8 @@ ghost use Rattle.session_texts.specs.Truth.{IsTrueText};
 ghost use Rattle.decommutator.specs.Entries.{IsStandingIn};
 ghost use Rattle.decommutator.specs.Rows as rows;
 ghost use Rattle.decommutator.specs.Output.{FinishCounts, FinishesWithin};
-ghost use Rattle.decommutator.specs.Following.{followed_text, after_followed, closing_text};
-ghost use Rattle.decommutator.specs.Follows.{FollowAnswers, FollowWrites, FollowCounts, FollowsWithin};
 
 use crate::counts::no_counts;
-use crate::fault::FollowFault;
 use crate::row::ValueRow;
 use crate::rows::{report_count, rows_of};
 use crate::taking::take;
@@ -100,32 +97,6 @@ impl Decommutator {
         // A law: it says of which worlds the text is true, and does nothing.
         texts_are_true();
         write_text(self.alloc, &self.history, &self.counts, sink)
-    }
-
-    /// One more entry, and the blocks that it brings are written.
-    pub fn follow<K: Sink>(self, entry: &Entry, sink: &mut K) -> Result<Decommutator, FollowFault>
-        requires few { self.standing.entries < 4294967295 }
-        requires size { length (held_octets entry.now) ≤ 2 ^ 31 }
-        requires followed { IsSome self.waiting }
-        requires stub { ⊥ }
-        ensures next { IfOk result (λ later. later ≡ after_followed self entry.now) }
-        ensures answer { FollowAnswers (entry_answer self.standing entry.now) result }
-        ensures written { FollowWrites (followed_text self entry.now) result (K.taken sink.old) (K.taken sink.new) }
-        ensures count { FollowCounts result (K.faults sink.old) (K.faults sink.new) }
-        ensures room { FollowsWithin (followed_text self entry.now) result (K.room sink.old) (K.room sink.new) }
-    {
-        unreachable!()
-    }
-
-    /// The other blocks, and the counts, are written.
-    pub fn close<K: Sink>(self, sink: &mut K) -> Result<(), WriteFault>
-        requires followed { IsSome self.waiting }
-        requires stub { ⊥ }
-        ensures written { Writes (closing_text self) result (K.taken sink.old) (K.taken sink.new) }
-        ensures count { FinishCounts result (K.faults sink.old) (K.faults sink.new) }
-        ensures room { FinishesWithin (closing_text self) result (K.room sink.old) }
-    {
-        unreachable!()
     }
 
     /// The numbers of the entries.

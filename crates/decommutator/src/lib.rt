@@ -16,6 +16,6 @@ mod verdicts;
 
 pub use decommutator::Decommutator;
 pub use fault::FollowFault;
-pub use laws::{entries_are_followed, entries_stand};
+pub use laws::entries_stand;
 pub use row::ValueRow;
 pub use session_texts::{RecordProblem, Tally};

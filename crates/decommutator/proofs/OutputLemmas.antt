@@ -176,3 +176,17 @@ text-ended blocks lines out (Err fault) from mid now first second =
     let text : List ℕ = blocks ++ lines in
     let one : IsUnderWay text (out ++ lines) from mid = first text lines from (begins text from) in
     second text [] from (subst (λ l. IsUnderWay text l from mid) (sym (append-nil (out ++ lines))) one)
+
+-- a text that was written piece by piece from its beginning
+pub written-whole : (text : List ℕ) (from now : Seen) → Proceeds text from (Ok tt) [] now → IsUnderWay text [] from now
+written-whole text from now first = first text [] from (subst (λ l. IsUnderWay text l from from) (sym (append-nil text)) (begins text from))
+
+-- its first part was written
+pub written-part : (text others : List ℕ) (fault : WriteFault) (from now : Seen) → Proceeds text from (Err fault) others now → HasEnded text (Err fault) from now
+written-part text others fault from now first = first text [] from (subst (λ l. IsUnderWay text l from from) (sym (append-nil text)) (begins text from))
+
+-- the room that is left after a whole text
+pub whole-room : (text part : List ℕ) (before now : Option ℕ) → text ≡ part ++ [] → IfSome before (λ r. length text ≤ r → now ≡ Some (r - length part))
+    → IfSome before (λ r. length text ≤ r → now ≡ Some (r - length text))
+whole-room text part None now whole left = tt
+whole-room text part (Some r) now whole left = λ fits. left fits ∙ ap (λ l. Some (r - length l)) (sym (whole ∙ append-nil part))

@@ -2,7 +2,7 @@
 ghost use Rattle.std.specs.Prelude.{◌≡◌, ◌≤◌, ◌++◌, length, flat_map};
 ghost use Rattle.body_fields.specs.Outcomes.{Appends};
 ghost use Rattle.pus_messages.specs.Spelling.{HasRoom};
-ghost use Rattle.session_texts.specs.Blocks.{block};
+ghost use Rattle.session_texts.specs.Blocks.{block, body_block};
 ghost use Rattle.decommutator.specs.Output.{Proceeds, seen_as};
 ghost use Rattle.decommutator.specs.Blocks.{parameter_block};
 
@@ -11,7 +11,7 @@ use crate::verdicts::Verdicts;
 use block_lines::{write_current, write_report, write_statistics};
 use ground_history::KeptPacket;
 use hk_base::{Key, Memory, Sink};
-use pus_messages::ReportBody;
+use pus_messages::{Report, ReportBody};
 use session_record::WriteFault;
 use st03_grammar::Report03;
 use st04_grammar::Report04;
@@ -34,7 +34,7 @@ pub(crate) fn write_blocks<K: Sink>(
 }
 
 /// Appends the block of a kept report.
-pub(crate) fn put_block(
+fn put_block(
     alloc: Global,
     verdicts: &Verdicts<'_>,
     kept: &KeptPacket,
@@ -43,8 +43,21 @@ pub(crate) fn put_block(
     requires { HasRoom kept.now.report.body }
     ensures { Appends out.old.items result out.new.items (block verdicts.now.tailoring verdicts.now.history kept.now) }
 {
-    let tag = kept.tag();
-    match &kept.report().body {
+    put_last(alloc, verdicts, kept.report(), out)
+}
+
+/// Appends the block of a report by what is known.
+pub(crate) fn put_last(
+    alloc: Global,
+    verdicts: &Verdicts<'_>,
+    report: &Report,
+    out: &mut Vec<u8>,
+) -> Result<(), Memory>
+    requires { HasRoom report.now.body }
+    ensures { Appends out.old.items result out.new.items (body_block verdicts.now.tailoring verdicts.now.history report.now.header.tag report.now.body) }
+{
+    let tag = report.header.tag;
+    match &report.body {
         ReportBody::Hk(Report03::Values(key, payload)) => {
             put_report(alloc, verdicts, *key, tag, payload.as_slice(), out)
         }

@@ -1,5 +1,5 @@
 //! What stands for the entries of a session.
-ghost use Rattle.std.specs.Prelude.{◌≡◌, ◌≤◌, ◌<◌, ◌^◌, [], Some, IfOk, IfSome, length};
+ghost use Rattle.std.specs.Prelude.{◌≡◌, ◌≤◌, ◌<◌, ◌^◌, [], Some, IfOk, IsSome, length};
 ghost use Rattle.ground_history.specs.Ground.{IsAnswer, IsGrounded};
 ghost use Rattle.session_record.specs.Records.{held_octets};
 ghost use Rattle.session_record.specs.Writing.{Writes};
@@ -9,8 +9,13 @@ ghost use Rattle.session_texts.specs.Truth.{IsTrueText};
 ghost use Rattle.decommutator.specs.Entries.{IsStandingIn};
 ghost use Rattle.decommutator.specs.Rows as rows;
 ghost use Rattle.decommutator.specs.Output.{FinishCounts, FinishesWithin};
+ghost use Rattle.decommutator.specs.Following.{after_followed, followed_text, closing_text};
+ghost use Rattle.decommutator.specs.Follows.{FollowAnswers, FollowWrites, FollowCounts, FollowsWithin};
 
 use crate::counts::no_counts;
+use crate::fault::FollowFault;
+use crate::following::{Following, go_on};
+use crate::rest::write_rest;
 use crate::row::ValueRow;
 use crate::rows::{report_count, rows_of};
 use crate::taking::take;
@@ -19,6 +24,7 @@ use crate::text::write_text;
 use block_lines::Counts;
 use ground_history::{History, SentFault};
 use hk_base::{Items, Memory, Sink, Tailoring};
+use live_verdicts::LiveVerdicts;
 use session_record::{Entry, WriteFault};
 use session_texts::{Tally, texts_are_true};
 use std::alloc::Global;
@@ -31,17 +37,21 @@ pub struct Decommutator {
     history: History,
     counts: Counts,
     entries: u32,
-    waiting: Option<Items<u64>>,
+    /// None once an entry was taken and not followed.
+    following: Option<Following>,
 }
 
 impl Model for Decommutator {
+    ghost use Rattle.std.specs.Prelude.{IfSome, option_map};
+    ghost use Rattle.live_verdicts.specs.Marks.{StandsFor};
     ghost use Rattle.decommutator.specs.Standing.{Decommutation, IsOrderly};
+    ghost use Rattle.decommutator.specs.Follows.{AreWaiting};
 
     ghost Value = { Decommutation };
 
-    ghost view = { λ d. record { standing = record { tailoring = d.history.tailoring; history = d.history.history; counts = d.counts; entries = d.entries }; waiting = d.waiting } };
+    ghost view = { λ d. record { standing = record { tailoring = d.history.tailoring; history = d.history.history; counts = d.counts; entries = d.entries }; waiting = option_map (λ f. f.waiting.items) d.following } };
 
-    ghost invariant = { λ d. IsOrderly (record { tailoring = d.history.tailoring; history = d.history.history; counts = d.counts; entries = d.entries }) };
+    ghost invariant = { λ d. IsOrderly (record { tailoring = d.history.tailoring; history = d.history.history; counts = d.counts; entries = d.entries }) × IfSome d.following (λ f. StandsFor f.live d.history × AreWaiting f.waiting.items d.history) };
 }
 
 impl Decommutator {
@@ -55,7 +65,10 @@ impl Decommutator {
             history: History::new(alloc, tailoring, known, long),
             counts: no_counts(),
             entries: 0,
-            waiting: Some(Items::from_vec(Vec::new(alloc))),
+            following: Some(Following {
+                live: LiveVerdicts::new(alloc),
+                waiting: Vec::new(alloc),
+            }),
         }
     }
 
@@ -69,8 +82,64 @@ impl Decommutator {
     {
         take(&mut self.history, &mut self.counts, entry)?;
         self.entries += 1;
-        self.waiting = None;
+        self.following = None;
         Ok(())
+    }
+
+    /// One more entry, after which the blocks are written that can be written now and weren't before, in the order of tags. After a
+    /// refusal of the entry nothing was written; where writing ends in a fault, the first part of the text was.
+    pub fn follow<K: Sink>(self, entry: &Entry, sink: &mut K) -> Result<Decommutator, FollowFault>
+        requires few { self.standing.entries < 4294967295 }
+        requires size { length (held_octets entry.now) ≤ 2 ^ 31 }
+        requires followed { IsSome self.waiting }
+        ensures next { IfOk result (λ later. later ≡ after_followed self entry.now) }
+        ensures answer { FollowAnswers (entry_answer self.standing entry.now) result }
+        ensures written { FollowWrites (followed_text self entry.now) result (K.taken sink.old) (K.taken sink.new) }
+        ensures count { FollowCounts result (K.faults sink.old) (K.faults sink.new) }
+        ensures room { FollowsWithin (followed_text self entry.now) result (K.room sink.old) (K.room sink.new) }
+    {
+        let Decommutator {
+            alloc,
+            mut history,
+            mut counts,
+            entries,
+            following,
+        } = self;
+        let Some(
+            Following {
+                mut live,
+                mut waiting,
+            },
+        ) = following
+        else {
+            unreachable!();
+        };
+        let _known = history.tailoring();
+        let came = take(&mut history, &mut counts, entry)?;
+        let _known = history.tailoring();
+        go_on(alloc, &mut live, &mut waiting, &history, came, sink)?;
+        Ok(Decommutator {
+            alloc,
+            history,
+            counts,
+            entries: entries + 1,
+            following: Some(Following { live, waiting }),
+        })
+    }
+
+    /// Writes what is left after the last entry: the other blocks in the order of tags, and then the counts.
+    pub fn close<K: Sink>(self, sink: &mut K) -> Result<(), WriteFault>
+        requires followed { IsSome self.waiting }
+        ensures written { Writes (closing_text self) result (K.taken sink.old) (K.taken sink.new) }
+        ensures count { FinishCounts result (K.faults sink.old) (K.faults sink.new) }
+        ensures room { FinishesWithin (closing_text self) result (K.room sink.old) }
+    {
+        let _known = self.history.tailoring();
+        let Some(following) = &self.following else {
+            unreachable!();
+        };
+        let tags = following.waiting.as_slice();
+        write_rest(self.alloc, &self.history, &self.counts, tags, sink)
     }
 
     /// The number of entries that were taken so far, skipped ones among them.

@@ -1,12 +1,14 @@
 //! What the definitions promise.
-ghost use Rattle.std.specs.Prelude.{◌≡◌, [], ◌∷◌, ◌++◌, List};
+ghost use Rattle.std.specs.Prelude.{◌≡◌, [], ◌∷◌, ◌++◌, ℕ, List, Some};
 ghost use Rattle.hk_base.specs.TailoringParts.{TailoringParts};
 ghost use Rattle.pus_messages.specs.Messages.{protocol};
 ghost use Rattle.session_record.specs.declared.header.Header.{Header};
 ghost use Rattle.session_record.specs.declared.entry.Entry.{Entry};
 ghost use Rattle.session_texts.specs.Texts.{text};
 ghost use Rattle.session_texts.specs.Tallies.{tally};
-ghost use Rattle.decommutator.specs.Standing.{new_standing, with_entry, standing_text, standing_tally};
+ghost use Rattle.session_texts.specs.Follow.{entry_blocks, follow_end};
+ghost use Rattle.decommutator.specs.Standing.{Decommutation, new_standing, with_entry, standing_text, standing_tally};
+ghost use Rattle.decommutator.specs.Following.{IsFollowing, after_followed, followed_text, closing_text};
 ghost use Rattle.decommutator.specs.Entries.{standing_of};
 
 /// What stands for no entries is what there is at the start, each entry leads on to what stands for the entries with it, and
@@ -16,4 +18,16 @@ pub fn entries_stand()
     ensures next { (t : TailoringParts) (h : Header) (entries : List Entry) (e : Entry) → with_entry (standing_of t h entries) e ≡ standing_of t h (entries ++ e ∷ []) }
     ensures text { (t : TailoringParts) (h : Header) (entries : List Entry) → standing_text (standing_of t h entries) ≡ text (protocol t) h entries }
     ensures tally { (t : TailoringParts) (h : Header) (entries : List Entry) → standing_tally (standing_of t h entries) ≡ tally (protocol t) h entries }
+{}
+
+/// What stands for entries that were each followed: at the start it is what stands for none, each entry leads on, and what is
+/// written is what is due of the entries.
+pub fn entries_are_followed()
+    ensures first { (t : TailoringParts) (h : Header) → IsFollowing t h [] (record { standing = new_standing t h.known h.long; waiting = Some [] }) }
+    ensures next { (t : TailoringParts) (h : Header) (entries : List Entry) (d : Decommutation) (e : Entry) → IsFollowing t h entries d
+        → IsFollowing t h (e ∷ entries) (after_followed d e) }
+    ensures text { (t : TailoringParts) (h : Header) (entries : List Entry) (d : Decommutation) (e : Entry) → IsFollowing t h entries d
+        → followed_text d e ≡ entry_blocks (protocol t) h e entries }
+    ensures rest { (t : TailoringParts) (h : Header) (entries : List Entry) (d : Decommutation) → IsFollowing t h entries d
+        → closing_text d ≡ follow_end (protocol t) h entries }
 {}

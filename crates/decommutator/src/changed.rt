@@ -1,0 +1,120 @@
+//! What an entry brings, and what it may have changed.
+ghost use Rattle.std.specs.Prelude.{◌≡◌, ℕ, true, Ok, Some};
+ghost use Rattle.ground_history.specs.Ground.{Ground};
+ghost use Rattle.session_record.specs.declared.entry.Entry.{Entry};
+ghost use Rattle.live_verdicts.specs.Changes.{IsBelow, AreSameBelow};
+ghost use Rattle.decommutator.specs.Standing.{ground_after};
+ghost use Rattle.decommutator.specs.Due as due;
+ghost use Rattle.decommutator.specs.Due.{came_of, new_tag};
+
+use ground_history::{GotKind, History};
+use live_verdicts::{changed_by_kept, changed_by_sent};
+
+/// What an entry brought to what is known.
+#[derive(Clone, Copy, Drop)]
+pub(crate) enum Came {
+    Nothing,
+    Request,
+    /// A packet with this tag was kept.
+    Kept(u64),
+}
+
+/// Which reports may have another verdict than before.
+#[derive(Clone, Copy, Drop)]
+pub(crate) struct Changed {
+    /// Those from this tag on.
+    pub(crate) from: Option<u64>,
+    /// The one that was kept.
+    pub(crate) new: Option<u64>,
+}
+
+impl Came {
+    /// What a packet brought that was received.
+    pub(crate) fn got(kind: GotKind) -> Came
+        ensures { result ≡ due.came_got kind }
+    {
+        match kind {
+            GotKind::Kept(tag) => Came::Kept(tag),
+            _ => Came::Nothing,
+        }
+    }
+
+    /// What a packet brought that was sent.
+    pub(crate) fn sent(new: bool) -> Came
+        ensures { result ≡ due.came_sent (Ok new) }
+    {
+        if new { Came::Request } else { Came::Nothing }
+    }
+}
+
+/// From which tag on verdicts may have changed.
+fn changed_from(history: &History, came: Came) -> Option<u64>
+    ensures { (g : Ground) (e : Entry) → came ≡ came_of g e → history.now ≡ ground_after g e (Ok tt) → AreSameBelow result g history.now }
+{
+    match came {
+        Came::Nothing => None,
+        Came::Request => changed_by_sent(history),
+        Came::Kept(tag) => changed_by_kept(history, tag),
+    }
+}
+
+/// Which reports may have another verdict than before.
+pub(crate) fn changes_by(history: &History, came: Came) -> Changed
+    ensures same { (g : Ground) (e : Entry) → came ≡ came_of g e → history.now ≡ ground_after g e (Ok tt) → AreSameBelow result.from g history.now }
+    ensures new { result.new ≡ new_tag came }
+{
+    let new = match came {
+        Came::Kept(tag) => Some(tag),
+        _ => None,
+    };
+    Changed {
+        from: changed_from(history, came),
+        new,
+    }
+}
+
+impl Changed {
+    /// Whether a report with this tag was known before and has the verdict that it had.
+    pub(crate) fn is_same(self, tag: u64) -> bool
+        ensures { result ≡ due.is_same self tag }
+    {
+        is_below(self.from, tag) && !is_new(self.new, tag)
+    }
+
+    /// A tag below which all is the same; None where all is.
+    pub(crate) fn first(self) -> Option<u64>
+        ensures { (tag : ℕ) → IsBelow tag result → due.is_same self tag ≡ true }
+    {
+        match self.new {
+            Some(new) => Some(least(self.from, new)),
+            None => self.from,
+        }
+    }
+}
+
+fn is_below(from: Option<u64>, tag: u64) -> bool
+    ensures { result ≡ due.is_below from tag }
+{
+    match from {
+        Some(from) => tag < from,
+        None => true,
+    }
+}
+
+fn is_new(new: Option<u64>, tag: u64) -> bool
+    ensures { result ≡ due.is_new new tag }
+{
+    match new {
+        Some(new) => new == tag,
+        None => false,
+    }
+}
+
+fn least(from: Option<u64>, new: u64) -> u64
+    ensures { (tag : ℕ) → IsBelow tag (Some result) → due.is_same (due.changes from new) tag ≡ true }
+{
+    match from {
+        Some(from) => from.min(new),
+        None => new,
+    }
+}

@@ -292,7 +292,8 @@ fn writes_fail(rt: HostRuntime) -> Result<(), Fail> {
 
 #[test]
 fn records_that_are_followed(rt: HostRuntime) -> Result<(), Fail> {
-    let completed = "report hk 2 tag 32770 decided interval 4\nvalue 1 slot 7 = 1\nvalue 3 slot 4 = 10\n\
+    let completed =
+        "report hk 2 tag 32770 decided interval 4\nvalue 1 slot 7 = 1\nvalue 3 slot 4 = 10\n\
         value 3 slot 5 = 11\nvalue 3 slot 6 = 12\nvalue 3 slot 7 = 13\n";
     let unopened = "report hk 1 tag 32769 decided interval 4\nvalue 1 slot 7 = 7\n\
         report hk 1 tag 16385 no-opening\n";

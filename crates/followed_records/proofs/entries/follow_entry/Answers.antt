@@ -8,9 +8,6 @@ use Rattle.followed_records.proofs.FollowingLemmas.{counts_failed, entry_failed}
 use Rattle.followed_records.proofs.RoomLemmas.{failed_room}
 use Rattle.followed_records.proofs.entries.follow_entry.Goals as goal
 
-pub follow-requires-clause-stub : goal.follow-requires-clause-stub
-follow-requires-clause-stub g c = ?
-
 pub returns-in-Err-clause-followed : goal.returns-in-Err-clause-followed
 returns-in-Err-clause-followed g c =
     let before = g.K.Sink.taken c.args.sink.now in

@@ -11,9 +11,6 @@ use Rattle.followed_records.proofs.ReadingLemmas.{reading_ends}
 use Rattle.followed_records.proofs.StartLemmas.{first_follows, first_room, none_closes, none_room, nothing_yet, IsNewUnder}
 use Rattle.followed_records.proofs.following.follow_record.Goals as goal
 
-pub entries_are_followed-requires : goal.entries_are_followed-requires
-entries_are_followed-requires g c = ?
-
 pub returns-in_err-first-clause-followed : goal.returns-in_err-first-clause-followed
 returns-in_err-first-clause-followed g c =
     let p = err_from_is_err_and c.from_residual-in_err-first.result c.from_residual-in_err-first.ensures.1 in

@@ -4,3 +4,4 @@ pub mod ReadingLemmas
 pub mod FollowingLemmas
 pub mod RoomLemmas
 pub mod StartLemmas
+pub mod LawLemmas

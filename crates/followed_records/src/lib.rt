@@ -4,6 +4,8 @@
 mod entries;
 mod fault;
 mod following;
+mod laws;
 
 pub use fault::FollowingFault;
 pub use following::follow_record;
+pub use laws::followed_texts;

@@ -1,5 +1,5 @@
 -- What was written, with what is still to come, stays what comes of the record.
-use Rattle.std.proofs.Common.{◌≡◌, ℕ, List, [], ◌∷◌, ◌++◌, Option, Some, None, Result, Ok, Err, refl, sym, ap, subst, ◌∙◌, append_assoc, append-nil}
+use Rattle.std.proofs.Common.{◌≡◌, ℕ, List, [], ◌++◌, Option, Some, None, Result, Ok, Err, refl, sym, ap, subst, ◌∙◌, append_assoc}
 use Rattle.std.specs.Prelude.{IfSome, IsSome}
 use Rattle.ground_history.specs.Ground.{IsAnswer}
 use Rattle.ground_history.specs.declared.answer.SentFault.{SentFault}
@@ -10,8 +10,6 @@ use Rattle.session_record.specs.declared.entry.WriteFault.TheVariants as write
 use Rattle.session_record.specs.Reading.{Reading, Answers, GoesOn, to_come}
 use Rattle.session_record.specs.Written.{IsWritten, IsPrefixWritten}
 use Rattle.session_record.specs.declared.entry.Entry.{Entry}
-use Rattle.session_record.specs.declared.entry.RecordFault.{RecordFault}
-use Rattle.session_texts.specs.declared.problem.RecordProblem.{RecordProblem}
 use Rattle.decommutator.specs.Standing.{Decommutation, entry_answer}
 use Rattle.decommutator.specs.Follows.{FollowAnswers, FollowWrites, FollowCounts}
 use Rattle.decommutator.specs.declared.fault.FollowFault.{FollowFault}
@@ -19,7 +17,7 @@ use Rattle.decommutator.specs.declared.fault.FollowFault.TheVariants.{Sent, Writ
 use Rattle.decommutator.specs.Following.{followed_text, after_followed, closing_text}
 use Rattle.followed_records.specs.Told.{Told, told_text, told_problem}
 use Rattle.followed_records.specs.Faults.{fault_of_entry, fault_of_following, fault_of_writing}
-use Rattle.followed_records.specs.Following.{told_after, told_by, told_end, told_entry, told_rest, Closes, Follows, FollowsAll, FollowsEntry, FollowsUntil, SinkCounts}
+use Rattle.followed_records.specs.Following.{told_after, told_by, told_entry, told_rest, Closes, Follows, FollowsAll, FollowsEntry, FollowsUntil, SinkCounts}
 use Rattle.followed_records.specs.declared.fault.FollowingFault.{FollowingFault}
 use Rattle.followed_records.specs.declared.fault.FollowingFault.TheVariants.{Record, ReadFault, WriteFault, Memory}
 use Rattle.followed_records.proofs.WrittenLemmas.{written_none, written_then, written_as, prefix_as, prefix_none, prefix_part, prefix_behind}

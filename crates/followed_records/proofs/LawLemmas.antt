@@ -1,5 +1,5 @@
 -- What comes of a record, by its first problem.
-use Rattle.std.proofs.Common.{◌≡◌, ℕ, List, [], ◌++◌, map, Option, Some, None, Result, Ok, Err, refl, ap, sym, ◌∙◌, append-nil}
+use Rattle.std.proofs.Common.{◌≡◌, ℕ, List, [], map, Option, Some, None, Result, Ok, Err, refl, ap, sym, ◌∙◌, append-nil}
 use Rattle.std.specs.Prelude.{reverse}
 use Rattle.hk_base.specs.TailoringParts.{TailoringParts}
 use Rattle.pus_messages.specs.Protocol.{Protocol}
@@ -11,7 +11,7 @@ use Rattle.session_record.specs.declared.entry.RecordFault.{RecordFault}
 use Rattle.session_texts.specs.Sessions.{problem_of, record_problem}
 use Rattle.session_texts.specs.Follow.{follow_text, followed}
 use Rattle.session_texts.specs.declared.problem.RecordProblem.{RecordProblem}
-use Rattle.followed_records.specs.Told.{Told, taken_entries, told_until, told_of, told, told_text}
+use Rattle.followed_records.specs.Told.{taken_entries, told_until, told_of, told, told_text}
 
 until_problem : (p : Protocol) (h : Header) (list : List (ℕ × Entry)) (found : Option RecordProblem) → (told_until p h [] list found).problem ≡ found
 until_problem p h list None = refl

@@ -1,8 +1,8 @@
 -- What an answer of the reader says of what comes of a record.
-use Rattle.std.proofs.Common.{◌≡◌, ℕ, Bool, zero, suc, true, false, List, [], ◌∷◌, ◌++◌, drop, Option, Some, None, Result, Ok, Err, refl, sym, ap, subst, ◌∙◌, append-nil}
+use Rattle.std.proofs.Common.{◌≡◌, ℕ, zero, suc, false, List, [], ◌++◌, drop, Option, Some, None, Result, Ok, Err, refl, sym, ap, ◌∙◌, append-nil}
 use Rattle.std.specs.Prelude.{IfSome, IsSome, MatchResult}
 use Rattle.session_record.specs.Records.{Entries, entries_by, entries_from, entry_before, after_header, header_in, next_entry}
-use Rattle.session_record.specs.Reading.{Reading, Answers, GoesOn, IsFirst, is_final, is_settled, is_settled_at, is_settled_header, no_entries, read_on, to_come}
+use Rattle.session_record.specs.Reading.{Reading, Answers, GoesOn, is_final, is_settled, is_settled_at, is_settled_header, no_entries, read_on, to_come}
 use Rattle.session_record.specs.Written.{IsWritten}
 use Rattle.session_record.specs.declared.header.Header.{Header}
 use Rattle.session_record.specs.declared.entry.Entry.{Entry}

@@ -1,5 +1,5 @@
 -- Room for what is written stays room for what is still to be written.
-use Rattle.std.proofs.Common.{arith, ◌≡◌, ◌+◌, ◌-◌, ◌≤◌, ℕ, List, [], ◌∷◌, ◌++◌, length, Option, Some, None, Result, Ok, Err, refl, sym, ap, subst, ◌∙◌, length-append}
+use Rattle.std.proofs.Common.{arith, ◌≡◌, ◌+◌, ◌-◌, ◌≤◌, ℕ, List, length, Option, Some, None, Result, Ok, Err, refl, sym, ap, subst, ◌∙◌, length-append}
 use Rattle.std.specs.Prelude.{IfSome, IsSome}
 use Rattle.session_record.specs.Reading.{Reading, Answers, to_come}
 use Rattle.session_record.specs.declared.entry.Entry.{Entry}
@@ -17,7 +17,7 @@ use Rattle.decommutator.specs.Follows.{FollowsWithin}
 use Rattle.decommutator.specs.declared.fault.FollowFault.{FollowFault}
 use Rattle.decommutator.specs.declared.fault.FollowFault.TheVariants.{Sent, Write}
 use Rattle.followed_records.specs.Faults.{fault_of_entry, fault_of_following, fault_of_reading, fault_of_writing}
-use Rattle.followed_records.specs.Following.{told_end, told_entry, told_rest, told_after, FollowsEntry, HasRoomLeft, IsUnfailed, LeavesRoom}
+use Rattle.followed_records.specs.Following.{told_end, told_entry, told_rest, FollowsEntry, HasRoomLeft, IsUnfailed, LeavesRoom}
 use Rattle.followed_records.specs.declared.fault.FollowingFault.{FollowingFault}
 use Rattle.followed_records.specs.declared.fault.FollowingFault.TheVariants.{Record, ReadFault, WriteFault, Memory}
 use Rattle.followed_records.proofs.ReadingLemmas.{none_told, entry_next, end_next}

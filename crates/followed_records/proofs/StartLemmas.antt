@@ -1,5 +1,5 @@
 -- A record from its first octet on.
-use Rattle.std.proofs.Common.{◌≡◌, ◌≤◌, ℕ, List, [], ◌∷◌, ◌++◌, length, Option, Some, None, Result, Ok, Err, refl, sym, ap, subst, ◌∙◌}
+use Rattle.std.proofs.Common.{◌≡◌, ◌≤◌, ℕ, List, [], ◌++◌, length, Option, Some, None, Result, Ok, Err, refl, sym, ap, subst, ◌∙◌}
 use Rattle.std.specs.Prelude.{IfSome, IsSome, MatchResult}
 use Rattle.std.specs.Result.{result_unwrap_or}
 use Rattle.hk_base.specs.TailoringParts.{TailoringParts}
@@ -11,7 +11,7 @@ use Rattle.session_record.specs.declared.entry.RecordFault.{RecordFault}
 use Rattle.decommutator.specs.Standing.{Decommutation}
 use Rattle.decommutator.specs.Following.{after_followed, closing_text}
 use Rattle.followed_records.specs.Told.{Told, told, told_text}
-use Rattle.followed_records.specs.Following.{told_end, told_entry, told_rest, new_decommutation, Closes, Follows, FollowsAll, FollowsUntil, IsUnfailed}
+use Rattle.followed_records.specs.Following.{told_end, told_entry, told_rest, new_decommutation, Closes, Follows, FollowsAll, IsUnfailed}
 use Rattle.followed_records.specs.declared.fault.FollowingFault.{FollowingFault}
 use Rattle.followed_records.specs.declared.fault.FollowingFault.TheVariants.{Memory}
 use Rattle.followed_records.proofs.WrittenLemmas.{written_none, prefix_none}

@@ -6,7 +6,7 @@ use Rattle.std.proofs.lemmas.List.{reverse-append, reverse-reverse}
 use Rattle.hk_base.specs.TailoringParts.{TailoringParts}
 use Rattle.pus_messages.specs.Protocol.{Protocol}
 use Rattle.pus_messages.specs.Messages.{protocol}
-use Rattle.ground_history.specs.Histories.{History, sent_answer}
+use Rattle.ground_history.specs.Histories.{sent_answer}
 use Rattle.ground_history.specs.declared.answer.SentFault.{SentFault}
 use Rattle.session_record.specs.Records.{Entries, header_of, read_record}
 use Rattle.session_record.specs.declared.header.Header.{Header}
@@ -19,8 +19,8 @@ use Rattle.session_texts.specs.declared.problem.RecordProblem.{RecordProblem}
 use Rattle.session_texts.specs.declared.problem.RecordProblem.TheVariants as problem
 use Rattle.decommutator.specs.Standing.{Standing, Decommutation, entry_answer, taken}
 use Rattle.decommutator.specs.Following.{IsFollowing, followed_text, after_followed, closing_text}
-use Rattle.followed_records.specs.Told.{Told, taken_by, taken_entries, told_until, told_of, told, told_problem}
-use Rattle.followed_records.specs.Following.{told_after, told_by, told_entry, told_entries, told_rest, new_decommutation}
+use Rattle.followed_records.specs.Told.{Told, taken_by, taken_entries, told_until, told_of, told}
+use Rattle.followed_records.specs.Following.{told_after, told_by, told_entries, told_rest, new_decommutation}
 
 -- what is promised of what stands for entries that were followed
 pub record IsPromised : Type 0 where

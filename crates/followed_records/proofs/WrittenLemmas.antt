@@ -1,5 +1,5 @@
 -- What stands on a sink after one text and then another.
-use Rattle.std.proofs.Common.{arith, zero-le, ◌≡◌, ◌+◌, ◌≤◌, ℕ, List, [], ◌++◌, length, take, Option, Some, None, sym, ap, subst, ◌∙◌, append_assoc, append-nil, length-append}
+use Rattle.std.proofs.Common.{arith, zero-le, ◌≡◌, ◌+◌, ℕ, List, [], ◌++◌, length, take, Option, Some, None, sym, ap, subst, ◌∙◌, append_assoc, append-nil, length-append}
 use Rattle.std.proofs.lemmas.List.{take-append-le}
 use Rattle.std.proofs.Math.Seq.{take-append_seam, take-append-add}
 use Rattle.session_record.specs.Written.{IsWritten, IsPrefixWritten}

@@ -1,4 +1,4 @@
-use Rattle.std.proofs.Common.{◌≡◌, ◌+◌, List, ℕ, Option, Some, Ok, Err, arith, refl, rules, sym, ap, subst, ◌∙◌}
+use Rattle.std.proofs.Common.{◌≡◌, ◌+◌, List, ℕ, Option, Ok, Err, arith, refl, rules, sym, ap, subst, ◌∙◌}
 use Rattle.std.proofs.lemmas.Result.{err_from_is_err_and}
 use Rattle.std.specs.Prelude.{IsSome}
 use Rattle.session_record.specs.Faults.{lasting}
@@ -6,11 +6,10 @@ use Rattle.session_record.specs.Reading.{Answers, GoesOn, Moves, to_come}
 use Rattle.session_record.specs.declared.entry.Entry.{Entry}
 use Rattle.decommutator.specs.Standing.{Decommutation}
 use Rattle.followed_records.specs.Told.{Told}
-use Rattle.followed_records.specs.Following.{told_rest, FollowsAll, HasRoomLeft}
-use Rattle.followed_records.specs.declared.fault.FollowingFault.{FollowingFault}
+use Rattle.followed_records.specs.Following.{told_rest}
 use Rattle.followed_records.proofs.ReadingLemmas.{reading_ends}
 use Rattle.followed_records.proofs.FollowingLemmas.{on_start, on_next, on_until, next_ends}
-use Rattle.followed_records.proofs.RoomLemmas.{room_start, room_next, room_fails, room_end, WithRoom}
+use Rattle.followed_records.proofs.RoomLemmas.{room_start, room_next, room_fails, room_end}
 use Rattle.followed_records.proofs.entries.follow_rest.Goals as goal
 
 pub loop-session-init : goal.loop-session-init

@@ -1,7 +1,6 @@
 use Rattle.std.proofs.Common.{Ok, Err}
 use Rattle.std.proofs.lemmas.Result.{err_from_is_err_and}
-use Rattle.session_record.specs.Reading.{to_come}
-use Rattle.followed_records.specs.Following.{told_rest, HasRoomLeft, IsUnfailed}
+use Rattle.followed_records.specs.Following.{HasRoomLeft, IsUnfailed}
 use Rattle.followed_records.proofs.FollowingLemmas.{from_ends, from_until, from_all, told_from}
 use Rattle.followed_records.proofs.RoomLemmas.{from_fails, from_room, end_room, unfailed, with_map}
 use Rattle.followed_records.proofs.following.follow_from.Goals as goal

@@ -14,7 +14,7 @@ use Rattle.session_texts.specs.Texts.{text}
 use Rattle.session_texts.specs.Truth.{IsSeenIn, IsTrueText}
 use Rattle.session_texts.specs.declared.problem.RecordProblem.{RecordProblem}
 use Rattle.hk_replay.specs.Outcomes.{Outcome, written, unless_problem, session_text, replay_outcome}
-use Rattle.hk_replay.specs.Words.{Command, RecordCommand, on_record, replay, show, encode, check, trim, generate}
+use Rattle.hk_replay.specs.Words.{Command, RecordCommand, on_record, replay, follow, show, encode, check, trim, generate}
 use Rattle.hk_replay.specs.Replay.{HasOutput}
 use Rattle.hk_replay.specs.Inputs.{TellsOf, Replays}
 use Rattle.hk_replay.specs.Truth.{IsRecordOf, IsTrueRun}
@@ -55,6 +55,7 @@ replay_tells (Some (check tailoring)) files t octets r = absurd r
 replay_tells (Some (trim name)) files t octets r = absurd r
 replay_tells (Some (encode tailoring name)) files t octets r = absurd r
 replay_tells (Some (generate seed rounds)) files t octets r = absurd r
+replay_tells (Some (on_record follow tailoring name)) files t octets r = absurd r
 replay_tells (Some (on_record show tailoring name)) files t octets r = absurd r
 replay_tells (Some (on_record replay tailoring name)) files t octets r = (Ok t, r.0, ap (option_map (replay_outcome t)) r.1)
 

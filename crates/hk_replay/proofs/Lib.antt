@@ -4,3 +4,4 @@ pub mod GeneratingLemmas
 pub mod HeadlineLemmas
 pub mod ShownLemmas
 pub mod TailoringLemmas
+pub mod FollowedLemmas

@@ -5,7 +5,7 @@ use Rattle.hk_replay.specs.declared.words.Command.TheVariants.{Make, OnRecord}
 use Rattle.hk_replay.specs.declared.words.Job.{Job}
 use Rattle.hk_replay.specs.declared.words.Job.TheVariants.{Encode, Check, Trim, Generate}
 use Rattle.hk_replay.specs.declared.words.RecordCommand.{RecordCommand}
-use Rattle.hk_replay.specs.declared.words.RecordCommand.TheVariants.{Replay, Show}
+use Rattle.hk_replay.specs.declared.words.RecordCommand.TheVariants.{Replay, Follow, Show}
 use Rattle.hk_replay.specs.declared.words.TailoringName.{TailoringName}
 use Rattle.hk_replay.specs.declared.words.TailoringName.TheVariants.{Builtin, File}
 
@@ -24,6 +24,7 @@ asked_job (Generate seed rounds) = words.generate seed rounds.count
 -- what is done with a record
 abbrev pub asked_of_record : RecordCommand → words.RecordCommand
 asked_of_record Replay = words.replay
+asked_of_record Follow = words.follow
 asked_of_record Show = words.show
 
 -- what a run is asked to do

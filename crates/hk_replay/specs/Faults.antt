@@ -10,6 +10,8 @@ use Rattle.record_commands.specs.declared.input.InputFault.{InputFault}
 use Rattle.record_commands.specs.declared.input.InputFault.TheVariants as input
 use Rattle.record_commands.specs.declared.showing.ShowFault.{ShowFault}
 use Rattle.record_commands.specs.declared.showing.ShowFault.TheVariants as showing
+use Rattle.followed_records.specs.declared.fault.FollowingFault.{FollowingFault}
+use Rattle.followed_records.specs.declared.fault.FollowingFault.TheVariants as following
 use Rattle.record_commands.specs.declared.encoding.EncodeFault.{EncodeFault}
 use Rattle.record_commands.specs.declared.encoding.EncodeFault.TheVariants as encoding
 use Rattle.ground_history.specs.declared.answer.SentFault.{SentFault}
@@ -58,6 +60,13 @@ status_of_input input.Memory = NoMemory
 abbrev pub status_of_showing : ShowFault → ReplayStatus
 status_of_showing (showing.Record f) = status_of_fault f
 status_of_showing showing.WriteFault = WriteFault
+
+-- how a run ends that followed the entries before a fault
+abbrev pub status_of_following : FollowingFault → ReplayStatus
+status_of_following (following.Record problem) = Record problem
+status_of_following following.ReadFault = ReadFault
+status_of_following following.WriteFault = WriteFault
+status_of_following following.Memory = NoMemory
 
 -- how a run ends that made no record of lines
 abbrev pub status_of_encoding : EncodeFault → ReplayStatus

@@ -10,7 +10,9 @@ use Rattle.hk_tailoring.specs.declared.fault.TailoringFault.{TailoringFault}
 use Rattle.hk_tailoring.specs.declared.fault.TailoringFault.TheVariants.{TooLong}
 use Rattle.record_commands.specs.Input.{IsEndOf}
 use Rattle.record_commands.specs.Showing.{IsShownAsGiven}
-use Rattle.hk_replay.specs.Words.{TailoringName, standard, in_file, RecordCommand, replay, show, Command, on_record, encode, check, trim, generate}
+use Rattle.followed_records.specs.Told.{told}
+use Rattle.followed_records.specs.Following.{IsFollowedAsGiven}
+use Rattle.hk_replay.specs.Words.{TailoringName, standard, in_file, RecordCommand, replay, follow, show, Command, on_record, encode, check, trim, generate}
 use Rattle.hk_replay.specs.Outcomes.{Outcome, written, stopped, record_outcome, encode_outcome, trim_outcome, generate_outcome}
 use Rattle.hk_replay.specs.Replay.{EndsWith}
 use Rattle.hk_replay.specs.declared.status.ReplayStatus.{ReplayStatus}
@@ -86,6 +88,11 @@ abbrev pub Replays : Option (List (List ℕ × List ℕ)) → Option Command →
 Replays files (Some (on_record replay tailoring name)) t octets = StandsFor files tailoring (Ok t) × (octets_of files name ≡ Some octets)
 Replays files command t octets = ⊥
 
+-- words say to follow these octets under this tailoring
+abbrev pub IsToFollow : Option (List (List ℕ × List ℕ)) → Option Command → TailoringParts → List ℕ → Type 0
+IsToFollow files (Some (on_record follow tailoring name)) t octets = StandsFor files tailoring (Ok t) × (octets_of files name ≡ Some octets)
+IsToFollow files command t octets = ⊥
+
 -- words say to do something with these octets, as a record, under this tailoring
 abbrev pub NamesRecord : Option (List (List ℕ × List ℕ)) → Option Command → TailoringParts → List ℕ → Type 0
 NamesRecord files (Some (on_record command tailoring name)) t octets = StandsFor files tailoring (Ok t) × (octets_of files name ≡ Some octets)
@@ -96,9 +103,10 @@ abbrev pub IsBeforeRecord : Option (List (List ℕ × List ℕ)) → TailoringNa
 IsBeforeRecord files standard before now = now ≡ before
 IsBeforeRecord files (in_file name) before now = (now ≡ before) ⊎ IsEndOf (octets_of files name) now
 
--- What was written before the shelf failed, where it had given a part of the record: nothing, or the lines of every entry whose octets it gave in full.
+-- What was written before the shelf failed, where it had given a part of the record: nothing, or what is written of every entry whose octets it gave in full, and nothing of what is written at the end.
 abbrev pub HasGiven : RecordCommand → TailoringParts → List ℕ → Option (List ℕ) → Option (List ℕ) → Option (List ℕ) → Type 0
 HasGiven replay t octets left before after = after ≡ before
+HasGiven follow t octets left before after = IsFollowedAsGiven (told t) octets left before after
 HasGiven show t octets left before after = IsShownAsGiven t octets left before after
 
 -- the same where the record was to be selected before

@@ -13,7 +13,8 @@ use Rattle.record_commands.specs.Trimming.{trimmed_octets}
 use Rattle.record_commands.specs.Showing.{show_text}
 use Rattle.record_commands.specs.Encoding.{encoded}
 use Rattle.hk_replay.specs.Generating.{numbers_text}
-use Rattle.hk_replay.specs.Words.{RecordCommand, replay, show}
+use Rattle.followed_records.specs.Told.{told, told_text}
+use Rattle.hk_replay.specs.Words.{RecordCommand, replay, follow, show}
 use Rattle.hk_replay.specs.Faults.{status_of_fault}
 use Rattle.hk_replay.specs.declared.status.ReplayStatus.{ReplayStatus}
 use Rattle.hk_replay.specs.declared.status.ReplayStatus.TheVariants.{Done, Record, Text}
@@ -56,9 +57,19 @@ status_at (Some fault) = status_of_fault fault
 abbrev pub show_outcome : TailoringParts → List ℕ → Outcome
 show_outcome t octets = listed (show_text t octets) (status_at (record_fault octets))
 
+-- how a run ends at the end of a record, or at its first problem
+abbrev pub status_of_problem : Option RecordProblem → ReplayStatus
+status_of_problem None = Done
+status_of_problem (Some problem) = Record problem
+
+-- the outcome of `follow` on octets: what is written after each entry before the first problem, and at the end where there is none
+abbrev pub follow_outcome : TailoringParts → List ℕ → Outcome
+follow_outcome t octets = listed (told_text (told t octets)) (status_of_problem (told t octets).problem)
+
 -- the outcome of what is done with a record
 abbrev pub record_outcome : RecordCommand → TailoringParts → List ℕ → Outcome
 record_outcome replay t octets = replay_outcome t octets
+record_outcome follow t octets = follow_outcome t octets
 record_outcome show t octets = show_outcome t octets
 
 -- a record that was made, or the number of the line that is refused

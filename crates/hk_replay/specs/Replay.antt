@@ -2,7 +2,7 @@
 use Rattle.std.specs.Prelude.{◌≡◌, ⊤, ℕ, List, Option, Some, Result, Ok, Err, IfErr}
 use Rattle.session_record.specs.Written.{IsWritten, IsPrefixWritten}
 use Rattle.hk_replay.specs.Outcomes.{Outcome, written, stopped, listed}
-use Rattle.hk_replay.specs.Words.{Command, RecordCommand, on_record, replay, show}
+use Rattle.hk_replay.specs.Words.{Command, RecordCommand, on_record, replay, follow, show}
 use Rattle.hk_replay.specs.declared.status.ReplayStatus.{ReplayStatus}
 use Rattle.hk_replay.specs.declared.status.ReplayStatus.TheVariants.{Done, Usage, Record, ReadFault, WriteFault, NoMemory}
 
@@ -47,9 +47,10 @@ WritesNothingElse (Record problem) before after = ⊤
 WritesNothingElse ReadFault before after = ⊤
 WritesNothingElse status before after = WritesNothingEarly status before after
 
--- The same by what is done with a record: `show` alone writes while it reads.
+-- The same by what is done with a record: `follow` and `show` write while they read.
 abbrev pub WritesNothingOf : RecordCommand → ReplayStatus → Option (List ℕ) → Option (List ℕ) → Type 0
 WritesNothingOf replay status before after = WritesNothingEarly status before after
+WritesNothingOf follow status before after = WritesNothingElse status before after
 WritesNothingOf show status before after = WritesNothingElse status before after
 
 -- nothing was written with most statuses

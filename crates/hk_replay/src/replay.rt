@@ -6,23 +6,28 @@ ghost use Rattle.hk_base.specs.TailoringParts.{TailoringParts};
 ghost use Rattle.hk_tailoring.specs.declared.fault.TailoringFault.{TailoringFault};
 ghost use Rattle.pus_messages.specs.Messages.{protocol};
 ghost use Rattle.hk_world.specs.Worlds.{World, IsWorld};
-ghost use Rattle.hk_replay.specs.Truth.{IsRecordOf, IsTrueRun};
+ghost use Rattle.hk_replay.specs.Truth.{IsRecordOf, IsTrueFollow, IsTrueRun};
 ghost use Rattle.hk_replay.specs.Words.{command_of};
 ghost use Rattle.hk_replay.specs.Asked.{asked_job, asked_of_record, named};
-ghost use Rattle.hk_replay.specs.Outcomes.{Outcome, outcome_text, record_outcome, show_outcome, encode_outcome, trim_outcome};
+ghost use Rattle.hk_replay.specs.Outcomes.{Outcome, outcome_text, record_outcome, follow_outcome, show_outcome, encode_outcome, trim_outcome};
 ghost use Rattle.hk_replay.specs.Replay.{HasOutput, WritesNothing, WritesNothingEarly, WritesNothingElse, WritesNothingOf, ReadsTo, IsOfReading};
-ghost use Rattle.hk_replay.specs.Inputs.{octets_of, StandsFor, told_under, check_outcome, Tells, TellsOf, Replays, NamesRecord, HasGiven, HasGivenFrom, HasGivenUnder, HasGivenOf};
+ghost use Rattle.hk_replay.specs.Inputs.{octets_of, StandsFor, told_under, check_outcome, Tells, TellsOf, IsToFollow, Replays, NamesRecord, HasGiven, HasGivenFrom, HasGivenUnder, HasGivenOf};
 ghost use Rattle.record_commands.specs.Showing.{IsShownAsGiven};
+ghost use Rattle.followed_records.specs.Told.{told};
+ghost use Rattle.followed_records.specs.Following.{IsFollowedAsGiven};
 
 use crate::generated::generated_text;
 use crate::session::replayed;
 use crate::status::ReplayStatus;
 use crate::tailorings::{check_line, tailoring_of};
 use crate::words::{Command, Job, RecordCommand, TailoringName, command_in};
+use followed_records::follow_record;
 use hk_base::{Shelf, Sink, Tailoring};
 use record_commands::{encode, show, trimmed};
 use session_record::write_all;
-use session_texts::{records_of_worlds_have_no_problem, texts_are_true};
+use session_texts::{
+    followed_lines_are_true, lines_are_true, records_of_worlds_have_no_problem, texts_are_true,
+};
 use std::alloc::Global;
 
 /// Does what the words say. They are those after the program's name.
@@ -40,7 +45,7 @@ pub fn replay_main<F: Shelf, K: Sink>(
     // What was written. With most statuses it is nothing, whatever the shelf tells.
     ensures nothing { WritesNothing (command_of (map string_bytes words.now)) result (K.taken sink.old) (K.taken sink.new) }
     ensures output { (outcome : Outcome) → TellsOf (F.files shelf.old) (command_of (map string_bytes words.now)) outcome → HasOutput result outcome (K.taken sink.old) (K.taken sink.new) }
-    // Where the shelf fails while a record is shown, each line of an entry that it gave in full was written before.
+    // Where the shelf fails while a record is followed or shown, all that is written of each entry that it gave in full was written before.
     ensures given { (t : TailoringParts) → (octets : List ℕ) → NamesRecord (F.files shelf.old) (command_of (map string_bytes words.now)) t octets → result ≡ ReplayStatus.ReadFault → HasGivenOf (F.files shelf.old) (command_of (map string_bytes words.now)) t octets (F.rest shelf.old) (F.rest shelf.new) (K.taken sink.old) (K.taken sink.new) }
 
     // A sound shelf that has the record isn't made to fail, nor is a sink with room for the text.
@@ -49,10 +54,14 @@ pub fn replay_main<F: Shelf, K: Sink>(
 
     // The headline: on the record of a world, whatever of it was lost, delayed, repeated or reordered, the text is true of what the board did there.
     ensures headline { (w : World) → IsWorld w → (t : TailoringParts) → w.session.protocol ≡ protocol t → (octets : List ℕ) → Replays (F.files shelf.old) (command_of (map string_bytes words.now)) t octets → IsRecordOf w octets → IsTrueRun w result (K.taken sink.old) (K.taken sink.new) }
+    // The same of a record that is followed: what was written is true, each line of it, also where reading or writing failed.
+    ensures following { (w : World) → IsWorld w → (t : TailoringParts) → w.session.protocol ≡ protocol t → (octets : List ℕ) → IsToFollow (F.files shelf.old) (command_of (map string_bytes words.now)) t octets → IsRecordOf w octets → IsTrueFollow w result (K.taken sink.old) (K.taken sink.new) }
 {
     // Laws: they say what is so in each world, and do nothing.
     records_of_worlds_have_no_problem();
     texts_are_true();
+    followed_lines_are_true();
+    lines_are_true();
     run(alloc, words, shelf, sink)
 }
 
@@ -71,7 +80,7 @@ fn run<F: Shelf, K: Sink>(
     // What was written. With most statuses it is nothing, whatever the shelf tells.
     ensures nothing { WritesNothing (command_of (map string_bytes words.now)) result (K.taken sink.old) (K.taken sink.new) }
     ensures output { (outcome : Outcome) → TellsOf (F.files shelf.old) (command_of (map string_bytes words.now)) outcome → HasOutput result outcome (K.taken sink.old) (K.taken sink.new) }
-    // Where the shelf fails while a record is shown, each line of an entry that it gave in full was written before.
+    // Where the shelf fails while a record is followed or shown, all that is written of each entry that it gave in full was written before.
     ensures given { (t : TailoringParts) → (octets : List ℕ) → NamesRecord (F.files shelf.old) (command_of (map string_bytes words.now)) t octets → result ≡ ReplayStatus.ReadFault → HasGivenOf (F.files shelf.old) (command_of (map string_bytes words.now)) t octets (F.rest shelf.old) (F.rest shelf.new) (K.taken sink.old) (K.taken sink.new) }
 
     // A sound shelf that has the record isn't made to fail, nor is a sink with room for the text.
@@ -189,8 +198,31 @@ fn on_selected<F: Shelf, K: Sink>(
 {
     match command {
         RecordCommand::Replay => replayed(alloc, tailoring, shelf, sink),
+        RecordCommand::Follow => followed(alloc, tailoring, shelf, sink),
         RecordCommand::Show => shown(alloc, tailoring, shelf, sink),
     }
+}
+
+/// Writes what is told of each entry of the record that the shelf has selected, before the next one is read, and the rest at the end.
+fn followed<F: Shelf, K: Sink>(
+    alloc: Global,
+    tailoring: &Tailoring,
+    shelf: &mut F,
+    sink: &mut K,
+) -> ReplayStatus
+    ensures used { result ≡ ReplayStatus.Usage → ⊥ }
+    ensures read_fault { result ≡ ReplayStatus.ReadFault → HasRisen (F.faults shelf.old) (F.faults shelf.new) }
+    ensures write_fault { result ≡ ReplayStatus.WriteFault → HasRisen (K.faults sink.old) (K.faults sink.new) }
+    ensures nothing { WritesNothingElse result (K.taken sink.old) (K.taken sink.new) }
+    ensures output { IfSome (F.rest shelf.old) (λ octets. HasOutput result (follow_outcome tailoring.now octets) (K.taken sink.old) (K.taken sink.new)) }
+    ensures given { IfSome (F.rest shelf.old) (λ octets. result ≡ ReplayStatus.ReadFault → IsFollowedAsGiven (told tailoring.now) octets (F.rest shelf.new) (K.taken sink.old) (K.taken sink.new)) }
+    ensures sound { F.is_sound shelf.old → IsSome (F.rest shelf.old) → F.faults shelf.new ≡ F.faults shelf.old }
+    ensures room { IfSome (F.rest shelf.old) (λ octets. IfSome (K.room sink.old) (λ room. length (outcome_text (follow_outcome tailoring.now octets)) ≤ room → K.faults sink.new ≡ K.faults sink.old)) }
+{
+    if let Err(fault) = follow_record(alloc, tailoring, shelf, sink) {
+        return fault.into();
+    }
+    ReplayStatus::Done
 }
 
 /// Writes a line for each entry of the record that the shelf has selected, before the next one is read.

@@ -1,10 +1,11 @@
 //! How a run ended.
 ghost use Rattle.std.specs.Prelude.{◌≡◌, ◌++◌, codes, IfOk};
-ghost use Rattle.hk_replay.specs.Faults.{entry_text, fault_text, format_text, problem_text, status_number, status_of_encoding, status_of_entry, status_of_fault, status_of_input, status_of_showing, status_of_tailoring};
+ghost use Rattle.hk_replay.specs.Faults.{entry_text, fault_text, format_text, problem_text, status_number, status_of_encoding, status_of_entry, status_of_fault, status_of_following, status_of_input, status_of_showing, status_of_tailoring};
 ghost use Rattle.hk_tailoring.specs.Texts.{fault_text as fault_of_tailoring};
 ghost use Rattle.hk_replay.specs.declared.status.ReplayStatus.TheVariants as status;
 ghost use Rattle.std.specs.String.{string_bytes};
 
+use followed_records::FollowingFault;
 use ground_history::SentFault;
 use hk_base::{Items, Memory, Octets};
 use hk_tailoring::TailoringFault;
@@ -93,6 +94,19 @@ impl From<ShowFault> for ReplayStatus {
         match fault {
             ShowFault::Record(fault) => fault.into(),
             ShowFault::WriteFault => ReplayStatus::WriteFault,
+        }
+    }
+}
+
+impl From<FollowingFault> for ReplayStatus {
+    ghost from_gives = { λ fault e. e ≡ status_of_following fault };
+
+    fn from(fault: FollowingFault) -> ReplayStatus {
+        match fault {
+            FollowingFault::Record(problem) => ReplayStatus::Record(problem),
+            FollowingFault::ReadFault => ReplayStatus::ReadFault,
+            FollowingFault::WriteFault => ReplayStatus::WriteFault,
+            FollowingFault::Memory => ReplayStatus::NoMemory,
         }
     }
 }

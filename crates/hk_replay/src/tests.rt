@@ -39,8 +39,22 @@ const STATISTICS: &[u8] =
     \x00\x00\x00\x00\x00\x00\x00\x00\x00\x00\x20\x08\x01\x00\x02\x00\x00\x00\x02\xfd\
     \x00\x00\x00\x00\x00\x00\xfc\x00\x00\x00\x00\x10\x00\xfc";
 
+/// A request that sets the interval of housekeeping structure 2 to 4.
+const CHANGE: &[u8] = b"S\x00\x00\x00\x0f\x18d\xc0\x00\x00\x08/\x03\x1f\x00\x01\x01\x02\x00\x04";
+
+/// A report of that structure, with the tag 32770.
+const CHANGED: &[u8] =
+    b"G\x00\x00\x00\x1a\x08d\xc0\x00\x00\x13\x20\x03\x19\x00\x00\x00\x01\x00\x00\x00\x00\x80\x02\x02\x00\x01\x0a\x0b\x0c\x0d";
+
+/// A report with the tag 28676: the request was completed.
+const COMPLETED: &[u8] =
+    b"G\x00\x00\x00\x17\x08d\xc0\x00\x00\x10\x20\x01\x07\x00\x00\x00\x01\x00\x00\x00\x00p\x04\x18d\xc0\x00";
+
 /// The words of the command on the record of `shelf_of`.
 const REPLAY: &[&str] = &["replay", "builtin", "record"];
+
+/// The same of the command that follows it.
+const FOLLOW: &[&str] = &["follow", "builtin", "record"];
 
 /// A request that sets the interval of housekeeping structure 2 to 4, as `encode` is given it.
 const LINE: &[u8] = b"0 f interval hk 2 4\n";
@@ -274,4 +288,48 @@ fn writes_fail(rt: HostRuntime) -> Result<(), Fail> {
         assert!(rt; call > 2 || sink.taken().len() <= 10);
     }
     Err("no run ended well".into())
+}
+
+#[test]
+fn records_that_are_followed(rt: HostRuntime) -> Result<(), Fail> {
+    let completed =
+        "report hk 2 tag 32770 decided interval 4\nvalue 1 slot 7 = 1\nvalue 3 slot 4 = 10\n\
+        value 3 slot 5 = 11\nvalue 3 slot 6 = 12\nvalue 3 slot 7 = 13\n";
+    let unopened = "report hk 1 tag 32769 decided interval 4\nvalue 1 slot 7 = 7\n\
+        report hk 1 tag 16385 no-opening\n";
+    let table: [(&[&[u8]], (u8, &str), &str); 4] = [
+        (&[KNOWN, CHANGE, CHANGED, COMPLETED], DONE, completed),
+        (
+            &[KNOWN, CHANGE, CHANGED, &COMPLETED[..20]],
+            (4, "record: cut at 59"),
+            "",
+        ),
+        (&[UNKNOWN, REPORT, STRUCTURE, LATER], DONE, unopened),
+        (
+            &[KNOWN, REPORT, &LATER[..26]],
+            (4, "record: cut at 35"),
+            REPORT_TEXT,
+        ),
+    ];
+    for (parts, status, text) in table {
+        check(&rt, rt.alloc(), FOLLOW, parts, status, text.as_bytes())?;
+    }
+    Ok(())
+}
+
+/// Each call of the sink fails in turn, until the fault behind the first entry is reached.
+#[test]
+fn writes_fail_before_a_later_fault(rt: HostRuntime) -> Result<(), Fail> {
+    let alloc = rt.alloc();
+    for call in 1..=20u32 {
+        let shelf = shelf_of(alloc, &[KNOWN, REPORT, b"X"], &[], 4096)?;
+        let (status, sink) = run(alloc, FOLLOW, shelf, sink_of(alloc, &[call], 1000)?)?;
+        if status.number() == 4 {
+            assert!(rt; call > 6 && sink.taken() == REPORT_TEXT.as_bytes());
+            return Ok(());
+        }
+        assert_eq!(rt; status.number(), 6);
+        assert!(rt; REPORT_TEXT.as_bytes().starts_with(sink.taken()));
+    }
+    Err("no run came to the fault".into())
 }

@@ -32,6 +32,8 @@ pub enum Command<'a> {
 pub enum RecordCommand {
     /// The text of its session is written when all of it was read.
     Replay,
+    /// What can be told for sure is written as it is read, and the rest at the end.
+    Follow,
     /// A line for each entry is written as it is read.
     Show,
 }
@@ -49,8 +51,8 @@ pub enum Job<'a> {
     Generate(u32, Rounds),
 }
 
-/// The command that the words are, if they are one of the forms `replay TAILORING RECORD`, `show TAILORING RECORD`,
-/// `encode TAILORING LINES`, `generate SEED ROUNDS`, `check TAILORING` and `trim RECORD`.
+/// The command that the words are, if they are one of the forms `replay TAILORING RECORD`, `follow TAILORING RECORD`,
+/// `show TAILORING RECORD`, `encode TAILORING LINES`, `generate SEED ROUNDS`, `check TAILORING` and `trim RECORD`.
 pub fn command_in(words: &[String]) -> Option<Command<'_>>
     ensures { option_map asked result ≡ command_of (map string_bytes words.now) }
 {
@@ -81,6 +83,8 @@ fn command_under<'a>(form: &str, tailoring: TailoringName<'a>, name: &'a str) ->
 {
     if form == "replay" {
         Some(Command::OnRecord(RecordCommand::Replay, tailoring, name))
+    } else if form == "follow" {
+        Some(Command::OnRecord(RecordCommand::Follow, tailoring, name))
     } else if form == "show" {
         Some(Command::OnRecord(RecordCommand::Show, tailoring, name))
     } else if form == "encode" {

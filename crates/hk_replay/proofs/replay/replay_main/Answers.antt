@@ -2,6 +2,7 @@ use Rattle.std.proofs.Common.{map}
 use Rattle.std.specs.String.{string_bytes}
 use Rattle.hk_replay.specs.Words.{command_of}
 use Rattle.hk_replay.proofs.HeadlineLemmas.{true_words}
+use Rattle.hk_replay.proofs.FollowedLemmas.{true_follow}
 use Rattle.hk_replay.proofs.replay.replay_main.Goals as goal
 
 pub returns-clause-headline : goal.returns-clause-headline
@@ -11,5 +12,16 @@ returns-clause-headline g c =
     (record {
       taken = λ h entries seen. c.records_of_worlds_have_no_problem.ensures.entries t w h entries spoken world seen;
       is_true = λ h entries seen. c.texts_are_true.ensures.entries t w h entries spoken world seen;
+    })
+    octets r is
+
+pub returns-clause-following : goal.returns-clause-following
+returns-clause-following g c =
+    λ w world t spoken octets r is.
+    true_follow (command_of (map string_bytes c.args.words.now)) (g.F.Shelf.files c.args.shelf.now) c.run.result (g.K.Sink.taken c.args.sink.now) (g.K.Sink.taken c.run.new.sink) c.run.ensures.output t w
+    (record {
+      taken = λ h entries seen. c.records_of_worlds_have_no_problem.ensures.entries t w h entries spoken world seen;
+      is_true = λ h entries seen. c.followed_lines_are_true.ensures.whole t w h entries spoken world seen;
+      lines = λ text more whole. c.lines_are_true.ensures.following w text more whole;
     })
     octets r is

@@ -1,0 +1,85 @@
+use Rattle.std.proofs.Common.{ℕ, Option, Some, None, Ok, Err, ap, subst, ◌∙◌}
+use Rattle.std.proofs.lemmas.Result.{err_from_is_err_and}
+use Rattle.session_record.specs.Faults.{lasting}
+use Rattle.session_record.specs.Records.{read_record}
+use Rattle.session_record.specs.Reading.{Reading, Answers, GoesOn, reading_at_start}
+use Rattle.session_record.specs.declared.entry.Entry.{Entry}
+use Rattle.followed_records.specs.Told.{told}
+use Rattle.followed_records.specs.Following.{IsUnfailed}
+use Rattle.followed_records.proofs.ToldLemmas.{IsPromised, start_of, told_start}
+use Rattle.followed_records.proofs.ReadingLemmas.{reading_ends}
+use Rattle.followed_records.proofs.StartLemmas.{first_follows, first_room, none_closes, none_room, nothing_yet, IsNewUnder}
+use Rattle.followed_records.proofs.following.follow_record.Goals as goal
+
+pub returns-in_err-first-clause-followed : goal.returns-in_err-first-clause-followed
+returns-in_err-first-clause-followed g c =
+    let p = err_from_is_err_and c.from_residual-in_err-first.result c.from_residual-in_err-first.ensures.1 in
+    let told_by = c.in_err-first.ensures in
+    let t = c.args.tailoring.now in
+    let rest = g.F.Shelf.rest c.args.shelf.now in
+    let left = g.F.Shelf.rest c.next.new.shelf in
+    let q = c.next.new.self in
+    let laws : IsPromised = record { first = c.entries_are_followed.ensures.first; next = c.entries_are_followed.ensures.next; text = c.entries_are_followed.ensures.text; rest = c.entries_are_followed.ensures.rest } in
+    let answer = subst (λ (r : Reading). Answers (Err c.in_err-first.field-0.0) r rest q left) c.in_ok-reader.ensures told_by.answer in
+    let onward = subst (λ (r : Reading). GoesOn (Err c.in_err-first.field-0.0) r rest q left) c.in_ok-reader.ensures told_by.goes_on in
+    rw (p.1, p.2) (reading_ends (told t) (λ more. start_of t (read_record more)) reading_at_start q rest left (g.K.Sink.taken c.args.sink.now) c.in_err-first.field-0.0
+    (told_start laws t) (λ is. told_by.fault ∙ ap lasting is) (λ is. told_by.unsettled (ap Err is)) answer onward)
+
+pub returns-in_err-session-clause-followed : goal.returns-in_err-session-clause-followed
+returns-in_err-session-clause-followed g c =
+    let p = err_from_is_err_and c.from_residual-in_err-session.result c.from_residual-in_err-session.ensures.1 in
+    rw (p.1, p.2) (nothing_yet (told c.args.tailoring.now) (g.F.Shelf.rest c.args.shelf.now) (g.F.Shelf.rest c.next.new.shelf) (g.K.Sink.taken c.args.sink.now))
+
+pub returns-in-None-clause-followed : goal.returns-in-None-clause-followed
+returns-in-None-clause-followed g c =
+    let t = c.args.tailoring.now in
+    let rest = g.F.Shelf.rest c.args.shelf.now in
+    let left = g.F.Shelf.rest c.next.new.shelf in
+    let q = c.next.new.self in
+    let d = c.in_ok-session.session in
+    let laws : IsPromised = record { first = c.entries_are_followed.ensures.first; next = c.entries_are_followed.ensures.next; text = c.entries_are_followed.ensures.text; rest = c.entries_are_followed.ensures.rest } in
+    let new : IsNewUnder t q.header d = (c.in_ok-session.ensures, c.in_ok-first.ensures.header) in
+    let answer = subst (λ (r : Reading). Answers (Ok None) r rest q left) c.in_ok-reader.ensures
+    (subst (λ (o : Option (ℕ × Entry)). Answers (Ok o) c.in_ok-reader.reader rest q left) c.in-None.is c.in_ok-first.ensures.answer) in
+    none_closes laws t rest left (g.K.Sink.taken c.args.sink.now) (g.K.Sink.taken c.close.new.sink) q d c.close.result answer new c.close.ensures.closed
+
+pub returns-in-None-clause-room : goal.returns-in-None-clause-room
+returns-in-None-clause-room g c =
+    let t = c.args.tailoring.now in
+    let rest = g.F.Shelf.rest c.args.shelf.now in
+    let left = g.F.Shelf.rest c.next.new.shelf in
+    let q = c.next.new.self in
+    let d = c.in_ok-session.session in
+    let laws : IsPromised = record { first = c.entries_are_followed.ensures.first; next = c.entries_are_followed.ensures.next; text = c.entries_are_followed.ensures.text; rest = c.entries_are_followed.ensures.rest } in
+    let new : IsNewUnder t q.header d = (c.in_ok-session.ensures, c.in_ok-first.ensures.header) in
+    let answer = subst (λ (r : Reading). Answers (Ok None) r rest q left) c.in_ok-reader.ensures
+    (subst (λ (o : Option (ℕ × Entry)). Answers (Ok o) c.in_ok-reader.reader rest q left) c.in-None.is c.in_ok-first.ensures.answer) in
+    none_room laws t rest left (g.K.Sink.room c.args.sink.now) q d c.close.result answer new c.close.ensures.room
+
+pub returns-clause-followed : goal.returns-clause-followed
+returns-clause-followed g c =
+    let t = c.args.tailoring.now in
+    let rest = g.F.Shelf.rest c.args.shelf.now in
+    let left = g.F.Shelf.rest c.next.new.shelf in
+    let q = c.next.new.self in
+    let d = c.in_ok-session.session in
+    let laws : IsPromised = record { first = c.entries_are_followed.ensures.first; next = c.entries_are_followed.ensures.next; text = c.entries_are_followed.ensures.text; rest = c.entries_are_followed.ensures.rest } in
+    let new : IsNewUnder t q.header d = (c.in_ok-session.ensures, c.in_ok-first.ensures.header) in
+    let x : ℕ × Entry = (c.in-Some.offset, c.in-Some.entry) in
+    let onward = subst (λ (r : Reading). GoesOn (Ok (Some x)) r rest q left) c.in_ok-reader.ensures
+    (subst (λ (o : Option (ℕ × Entry)). GoesOn (Ok o) c.in_ok-reader.reader rest q left) c.in-Some.is c.in_ok-first.ensures.goes_on) in
+    first_follows laws t rest left (g.F.Shelf.rest c.follow_from.new.shelf) (g.K.Sink.taken c.args.sink.now) (g.K.Sink.taken c.follow_from.new.sink) q d x c.follow_from.result onward new c.follow_from.ensures.followed
+
+pub returns-clause-room : goal.returns-clause-room
+returns-clause-room g c =
+    let t = c.args.tailoring.now in
+    let rest = g.F.Shelf.rest c.args.shelf.now in
+    let left = g.F.Shelf.rest c.next.new.shelf in
+    let q = c.next.new.self in
+    let d = c.in_ok-session.session in
+    let laws : IsPromised = record { first = c.entries_are_followed.ensures.first; next = c.entries_are_followed.ensures.next; text = c.entries_are_followed.ensures.text; rest = c.entries_are_followed.ensures.rest } in
+    let new : IsNewUnder t q.header d = (c.in_ok-session.ensures, c.in_ok-first.ensures.header) in
+    let x : ℕ × Entry = (c.in-Some.offset, c.in-Some.entry) in
+    let answer = subst (λ (r : Reading). Answers (Ok (Some x)) r rest q left) c.in_ok-reader.ensures
+    (subst (λ (o : Option (ℕ × Entry)). Answers (Ok o) c.in_ok-reader.reader rest q left) c.in-Some.is c.in_ok-first.ensures.answer) in
+    first_room laws t rest left (g.K.Sink.room c.args.sink.now) q d x (IsUnfailed c.follow_from.result) answer new c.follow_from.ensures.room

@@ -1,0 +1,85 @@
+//! A record that is followed from its first octet on.
+ghost use Rattle.std.specs.Prelude.{◌≡◌, ◌≤◌, ◌<◌, ◌+◌, ◌^◌, length, IfOk, IfSome, IsSome, IsErrOf};
+ghost use Rattle.hk_base.specs.Outside.{HasRisen};
+ghost use Rattle.session_record.specs.Records.{held_octets, most_entries};
+ghost use Rattle.session_record.specs.Reading.{to_come};
+ghost use Rattle.decommutator.specs.Following.{after_followed};
+ghost use Rattle.followed_records.specs.Told.{told, told_text};
+ghost use Rattle.followed_records.specs.Following.{new_decommutation, told_entry, told_rest, Follows, IsUnfailed, SinkCounts};
+
+use crate::entries::{close, follow_entry, follow_rest};
+use crate::fault::FollowingFault;
+use decommutator::{Decommutator, entries_are_followed};
+use hk_base::{Memory, Shelf, Sink, Tailoring};
+use session_record::{Entry, RecordReader};
+use std::alloc::Global;
+
+/// The most octets that are asked of the shelf at a time.
+const PIECE_OCTETS: u32 = 65_536;
+
+/// Follows the record that the shelf has selected: what is written of an entry is written before the next entry is read, and
+/// the rest at the end.
+pub fn follow_record<F: Shelf, K: Sink>(
+    alloc: Global,
+    tailoring: &Tailoring,
+    shelf: &mut F,
+    sink: &mut K,
+) -> Result<(), FollowingFault>
+    ensures followed { IfSome (F.rest shelf.old) (λ octets. Follows result (told tailoring.now) octets (F.rest shelf.new) (K.taken sink.old) (K.taken sink.new)) }
+    ensures read_fault { IsErrOf result FollowingFault.ReadFault → HasRisen (F.faults shelf.old) (F.faults shelf.new) }
+    ensures count { SinkCounts result (K.faults sink.old) (K.faults sink.new) }
+    ensures sound { F.is_sound shelf.old → IsSome (F.rest shelf.old) → F.faults shelf.new ≡ F.faults shelf.old }
+    ensures room { IfSome (F.rest shelf.old) (λ octets. IfSome (K.room sink.old) (λ room. length (told_text (told tailoring.now octets)) ≤ room → IsUnfailed result)) }
+{
+    // A law: it says what stands for entries that are followed, and does nothing.
+    entries_are_followed();
+    let mut reader = RecordReader::new(alloc, PIECE_OCTETS)?;
+    let first = reader.next(shelf)?;
+    let session = new_session(alloc, tailoring, &reader)?;
+    match first {
+        None => close(session, sink),
+        Some((offset, entry)) => follow_from(session, offset, &entry, &mut reader, shelf, sink),
+    }
+}
+
+/// Follows the first entry, and all that are still to come after it.
+fn follow_from<F: Shelf, K: Sink>(
+    session: Decommutator,
+    offset: u64,
+    entry: &Entry,
+    reader: &mut RecordReader,
+    shelf: &mut F,
+    sink: &mut K,
+) -> Result<(), FollowingFault>
+    requires few { session.standing.entries + reader.old.room < most_entries }
+    requires size { length (held_octets entry.now) ≤ 2 ^ 31 }
+    requires followed { IsSome session.waiting }
+    ensures followed { IfSome (F.rest shelf.old) (λ octets. Follows result (λ more. told_entry session offset entry.now (told_rest (after_followed session entry.now) (to_come reader.old more))) octets (F.rest shelf.new) (K.taken sink.old) (K.taken sink.new)) }
+    ensures read_fault { IsErrOf result FollowingFault.ReadFault → HasRisen (F.faults shelf.old) (F.faults shelf.new) }
+    ensures count { SinkCounts result (K.faults sink.old) (K.faults sink.new) }
+    ensures sound { F.is_sound shelf.old → IsSome (F.rest shelf.old) → F.faults shelf.new ≡ F.faults shelf.old }
+    ensures room { IfSome (F.rest shelf.old) (λ octets. IfSome (K.room sink.old) (λ room. length (told_text (told_entry session offset entry.now (told_rest (after_followed session entry.now) (to_come reader.old octets)))) ≤ room → IsUnfailed result)) }
+{
+    let session = follow_entry(session, offset, entry, sink)?;
+    let session = follow_rest(session, reader, shelf, sink)?;
+    close(session, sink)
+}
+
+/// What stands for no entries under the header that was read.
+fn new_session(
+    alloc: Global,
+    tailoring: &Tailoring,
+    reader: &RecordReader,
+) -> Result<Decommutator, Memory>
+    requires { IsSome reader.now.header }
+    ensures { IfOk result (λ session. IfSome reader.now.header (λ header. session ≡ new_decommutation tailoring.now header)) }
+{
+    let Some(known) = reader.known_start() else {
+        unreachable!();
+    };
+    let Some(long) = reader.long_session() else {
+        unreachable!();
+    };
+    let tailoring = tailoring.copy(alloc)?;
+    Ok(Decommutator::new(alloc, tailoring, known, long))
+}

@@ -1,15 +1,13 @@
 -- What `follow` wrote, as an outcome of the program, and that it is true.
-use Rattle.std.proofs.Common.{◌≡◌, ℕ, List, [], ◌++◌, map, take, drop, Option, Some, None, Result, Ok, Err, refl, sym, ap, subst, ◌∙◌, append-nil}
+use Rattle.std.proofs.Common.{◌≡◌, ℕ, List, [], ◌++◌, map, take, drop, Option, Some, None, Ok, sym, ap, subst, ◌∙◌, append-nil}
 use Rattle.std.specs.Prelude.{IfSome, option_map}
 use Rattle.std.specs.Option.{option_or}
 use Rattle.std.proofs.lemmas.List.{take-append-drop}
 use Rattle.hk_base.specs.TailoringParts.{TailoringParts}
 use Rattle.pus_messages.specs.Messages.{protocol}
-use Rattle.session_record.specs.Records.{Entries}
 use Rattle.session_record.specs.Written.{IsPrefixWritten}
 use Rattle.session_record.specs.declared.header.Header.{Header}
 use Rattle.session_record.specs.declared.entry.Entry.{Entry}
-use Rattle.session_record.specs.declared.entry.RecordFault.{RecordFault}
 use Rattle.hk_world.specs.Worlds.{World}
 use Rattle.session_texts.specs.Sessions.{entries_problem}
 use Rattle.session_texts.specs.Follow.{follow_text}

@@ -1,5 +1,5 @@
 -- What a run writes of the record of a world is true.
-use Rattle.std.proofs.Common.{◌≡◌, ℕ, List, [], map, Option, Some, None, Result, Ok, ap, sym, subst, ◌∙◌}
+use Rattle.std.proofs.Common.{◌≡◌, ℕ, List, [], map, Option, Some, None, Result, Ok, ap, subst, ◌∙◌}
 use Rattle.std.specs.Prelude.{option_map}
 use Rattle.std.specs.Option.{option_or}
 use Rattle.hk_base.specs.TailoringParts.{TailoringParts}
@@ -14,7 +14,7 @@ use Rattle.session_texts.specs.Texts.{text}
 use Rattle.session_texts.specs.Truth.{IsSeenIn, IsTrueText}
 use Rattle.session_texts.specs.declared.problem.RecordProblem.{RecordProblem}
 use Rattle.hk_replay.specs.Outcomes.{Outcome, written, unless_problem, session_text, replay_outcome}
-use Rattle.hk_replay.specs.Words.{Command, RecordCommand, on_record, replay, follow, show, encode, check, trim, generate}
+use Rattle.hk_replay.specs.Words.{Command, on_record, replay, follow, show, encode, check, trim, generate}
 use Rattle.hk_replay.specs.Replay.{HasOutput}
 use Rattle.hk_replay.specs.Inputs.{TellsOf, Replays}
 use Rattle.hk_replay.specs.Truth.{IsRecordOf, IsTrueRun}

@@ -1,5 +1,5 @@
 -- The outcome of what is still to come stays what it is while entries are taken.
-use Rattle.std.proofs.Common.{arith, append-nil, ◌≡◌, ◌+◌, ℕ, List, ◌++◌, Option, Some, None, Result, Ok, Err, refl, sym, ap, subst, ◌∙◌}
+use Rattle.std.proofs.Common.{arith, append-nil, ◌≡◌, ℕ, List, ◌++◌, Option, Some, None, Result, Ok, Err, refl, sym, ap, subst, ◌∙◌}
 use Rattle.std.specs.Prelude.{Bool, IfSome, IsSome, MatchResult, option_map}
 use Rattle.std.specs.Result.{result_unwrap_or}
 use Rattle.hk_base.specs.TailoringParts.{TailoringParts}

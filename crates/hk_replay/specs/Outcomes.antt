@@ -1,5 +1,5 @@
 -- What a run comes to by what its inputs hold: a text, or the reason why there is none.
-use Rattle.std.specs.Prelude.{ℕ, List, [], ◌++◌, map, Option, Some, None, Result, Ok, Err}
+use Rattle.std.specs.Prelude.{ℕ, List, [], map, Option, Some, None, Result, Ok, Err}
 use Rattle.hk_base.specs.TailoringParts.{TailoringParts}
 use Rattle.pus_messages.specs.Protocol.{Protocol}
 use Rattle.pus_messages.specs.Messages.{protocol}

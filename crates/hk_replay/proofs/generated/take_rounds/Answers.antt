@@ -1,4 +1,4 @@
-use Rattle.std.proofs.Common.{◌+◌, ◌++◌, List, arith, sym, subst}
+use Rattle.std.proofs.Common.{List, arith, sym, subst}
 use Rattle.session_record.specs.declared.entry.Entry.{Entry}
 use Rattle.generated_sessions.specs.Generated as made
 use Rattle.hk_replay.specs.Generating.{Follows}

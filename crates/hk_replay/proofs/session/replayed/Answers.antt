@@ -3,7 +3,7 @@ use Rattle.std.specs.Prelude.{IfSome}
 use Rattle.hk_base.specs.TailoringParts.{TailoringParts}
 use Rattle.session_record.specs.Reading.{Reading, Answers, reading_at_start}
 use Rattle.decommutator.specs.Standing.{new_standing}
-use Rattle.hk_replay.specs.Outcomes.{Outcome, outcome_text, replay_outcome}
+use Rattle.hk_replay.specs.Outcomes.{outcome_text, replay_outcome}
 use Rattle.hk_replay.specs.Replay.{HasOutput}
 use Rattle.hk_replay.specs.declared.status.ReplayStatus.{ReplayStatus}
 use Rattle.hk_replay.proofs.SessionLemmas.{Stands}

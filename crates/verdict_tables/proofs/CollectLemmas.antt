@@ -1,23 +1,25 @@
 -- The places of all structures, collected in one pass.
-use Rattle.std.proofs.Common.{arith, ◌≡◌, ℕ, zero, suc, ◌+◌, ◌<◌, ◌≤◌, refl, sym, ◌∙◌, ap, List, [], ◌∷◌, ◌++◌, append_assoc, append-nil, Bool, true, false, Option, Some, None, length, take, drop, flat_map, add-one}
+use Rattle.std.proofs.Common.{arith, ◌≡◌, ℕ, zero, suc, ◌+◌, ◌<◌, ◌≤◌, refl, sym, ◌∙◌, ap, List, [], ◌∷◌, ◌++◌, append_assoc, append-nil, Bool, true, false, Option, Some, None, length, take, drop, flat_map, add-one, inl, inr}
 use Rattle.std.specs.Prelude.{slice_get, nat_le, find, is_some, if◌then◌else◌}
 use Rattle.std.specs.List.{AllByRecursion, enumerate_from}
 use Rattle.std.specs.Option.{option_map_or}
-use Rattle.std.proofs.lemmas.Bool.{le-leb, lt-leb}
-use Rattle.std.proofs.lemmas.List.{take_more}
+use Rattle.std.proofs.lemmas.Bool.{le-leb, lt-leb, both_ways}
+use Rattle.std.proofs.lemmas.List.{take_more, take-append-drop}
 use Rattle.std.proofs.lemmas.List.Concat.{flat_map-append}
 use Rattle.std.proofs.lemmas.Option.{slice_get_within, get_or_from_slice_get}
 use Rattle.hk_base.specs.Parameters.{key_eq}
 use Rattle.hk_base.specs.declared.types.Key.{Key}
 use Rattle.hk_base.specs.declared.types.Structure.{Structure}
-use Rattle.hk_base.proofs.Membership.{some_value, AllByRecursion-IsIn, slice_get-IsIn}
+use Rattle.hk_base.proofs.Membership.{some_value, IsIn, AllByRecursion-IsIn, slice_get-IsIn}
 use Rattle.st03_grammar.specs.declared.bodies.Report03.TheVariants as hk
 use Rattle.pus_messages.specs.declared.message.Request.{Request}
 use Rattle.pus_messages.specs.declared.message.ReportBody.{ReportBody}
 use Rattle.pus_messages.specs.declared.message.ReportBody.TheVariants.{Hk}
+use Rattle.pus_messages.specs.declared.message.ReportBody.TheVariants as tell
 use Rattle.ground_history.specs.Histories.{Sent, Kept, History, tag_of}
-use Rattle.ground_history.specs.Ground.{HaveRisingTags}
+use Rattle.ground_history.specs.Ground.{HaveRisingTags, newest_told, tells_structure}
 use Rattle.definition_intervals.specs.Openings.{reported_structure}
+use Rattle.opening_sweeps.proofs.GatherLemmas.{newest-above}
 use Rattle.verdict_tables.specs.Places.{report_places, bound_places, changed_keys}
 use Rattle.verdict_tables.specs.Collecting.{tags_of, Collects, tags_if, named_places, sent_places}
 
@@ -88,6 +90,38 @@ split-next (x ∷ xs) (suc n) next k rising at e =
     let rest = split-next xs n next k rising.1 at e in
     let lower = AllByRecursion-IsIn (λ y. tag_of x < tag_of y) k xs rising.0 (slice_get-IsIn k xs n at) in
     record { below = (omega (arith, lower, e), rest.below); above = rest.above }
+
+untold-body : (key : Key) (body : ReportBody) → tells_structure body ≡ false → reported_structure key body ≡ None
+untold-body key (tell.Verify v) e = refl
+untold-body key (tell.Stat r) e = refl
+untold-body key (tell.Par r) e = refl
+untold-body key (Hk (hk.Structure named s)) e = absurd (both_ways true e refl)
+untold-body key (Hk (hk.Values named payload)) e = refl
+untold-body key (Hk (hk.Periodic kind rows)) e = refl
+
+untold-places : (key : Key) (k : Kept) → tells_structure k.report.body ≡ false → report_places key k ≡ []
+untold-places key k e = ap (λ (o : Option Structure). if is_some o then (tag_of k + 1) ∷ [] else []) (untold-body key k.report.body e)
+
+-- no report behind the last one of a structure has a place
+pub places-end : (key : Key) (kept : List Kept) (number from : ℕ) → IsSplit kept number from → newest_told kept < from → flat_map (report_places key) (take number kept) ≡ flat_map (report_places key) kept
+places-end key kept number from is lt =
+    sym (append-nil (flat_map (report_places key) (take number kept)))
+    ∙ (ap (λ l. flat_map (report_places key) (take number kept) ++ l) (sym (none (drop number kept) is.above (λ k i. dropped-in number kept k i)))
+    ∙ (sym (flat_map-append (report_places key) (take number kept) (drop number kept)) ∙ ap (λ ks. flat_map (report_places key) ks) (take-append-drop number kept)))
+  where
+    one : (k : Kept) → from ≤ tag_of k → IsIn k kept → (b : Bool) → tells_structure k.report.body ≡ b → report_places key k ≡ []
+    one k le i true e = let high = newest-above k kept i e in absurd (omega (arith, le, lt, high))
+    one k le i false e = untold-places key k e
+
+    none : (ks : List Kept) → AllByRecursion (λ k. from ≤ tag_of k) ks → ((k : Kept) → IsIn k ks → IsIn k kept) → flat_map (report_places key) ks ≡ []
+    none [] all sub = refl
+    none (k ∷ ks) all sub =
+        ap (λ l. l ++ flat_map (report_places key) ks) (one k all.0 (sub k (inl refl)) (tells_structure k.report.body) refl) ∙ none ks all.1 (λ x i. sub x (inr i))
+
+    dropped-in : (n : ℕ) (ks : List Kept) (k : Kept) → IsIn k (drop n ks) → IsIn k ks
+    dropped-in zero ks k i = i
+    dropped-in (suc n) [] k i = absurd i
+    dropped-in (suc n) (x ∷ ks) k i = inr (dropped-in n ks k i)
 
 pub pieces-next : {X Y : Type 0} (f : X → List Y) (xs : List X) (i : ℕ) (x : X) → slice_get xs i ≡ Some x → flat_map f (take i xs) ++ f x ≡ flat_map f (take (i + 1) xs)
 pieces-next {X = X} f xs i x at =

@@ -32,8 +32,12 @@ fn add_reports(history: &History, places: &mut Places) -> Result<(), Memory>
     requires { IsGrounded history.now }
     ensures { OnOk result (Collects places.old places.new (λ key. flat_map (report_places key) history.now.history.kept)) }
 {
+    let last = history.newest_told();
     let mut from = 0;
     for number in 0..history.kept() {
+        if from > last {
+            return Ok(());
+        }
         let Some(report) = history.report_from(from) else {
             unreachable!();
         };

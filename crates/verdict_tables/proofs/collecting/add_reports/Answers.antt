@@ -1,11 +1,12 @@
-use Rattle.std.proofs.Common.{◌≡◌, ◌∙◌, ◌<◌, ◌+◌, Bor, Option, sym, ap, subst, add-one}
+use Rattle.std.proofs.Common.{arith, ◌≡◌, ◌∙◌, ◌<◌, ◌+◌, Bor, Option, sym, ap, subst, add-one}
 use Rattle.std.specs.Prelude.{option_map}
 use Rattle.std.specs.Option.{option_copied}
 use Rattle.hk_base.proofs.Membership.{some_value}
 use Rattle.pus_messages.specs.declared.message.Report.{Report}
 use Rattle.ground_history.specs.Histories.{Kept}
+use Rattle.ground_history.specs.Ground.{newest_told}
 use Rattle.verdict_tables.specs.Places.{report_places}
-use Rattle.verdict_tables.proofs.CollectLemmas.{IsSplit, split-found, split-next, member-at, collects-both, collects-same, pieces-next, none_is_some}
+use Rattle.verdict_tables.proofs.CollectLemmas.{IsSplit, split-found, split-next, member-at, collects-both, collects-same, pieces-next, places-end, none_is_some}
 use Rattle.verdict_tables.proofs.collecting.add_reports.Goals as goal
 
 pub unreachable-requires : goal.unreachable-requires
@@ -34,3 +35,11 @@ loop-number-preserved c =
       from = subst (λ k. IsSplit h.kept k c.in_ok-from.from) (sym (add-one n))
           (split-next h.kept n c.in_ok-from.from member.0 c.requires.tags member.1 (c.in_ok-from.ensures ∙ ap (λ (r : Report). r.header.tag + 1) (sym same)));
     }
+
+pub returns-then-from-last : goal.returns-then-from-last
+returns-then-from-last c =
+    let ks = c.args.history.now.history.kept in
+    let n = c.loop-number.number in
+    let from = c.loop-number.from in
+    let after : newest_told ks < from = let last = c.newest_told-last.ensures in omega (arith, last) in
+    collects-same c.args.places.now c.loop-number.places _ _ (λ key. places-end key ks n from c.loop-number.invariant.from after) c.loop-number.invariant.places

@@ -97,10 +97,18 @@ impl History {
         requires { k < length self.now.history.requests }
         ensures { result ≡ evidence.low self.now.history k }
     {
+        self.floor(k).max(self.evidence.low(k))
+    }
+
+    /// The greatest tag that was kept before request k was first sent, or 0.
+    pub fn floor(&self, k: u64) -> u64
+        requires { k < length self.now.history.requests }
+        ensures { result ≡ evidence.floor self.now.history k }
+    {
         let Some(request) = self.requests.get(k) else {
             unreachable!();
         };
-        request.floor().max(self.evidence.low(k))
+        request.floor()
     }
 
     /// The tag below which all that is executed of request k lies, if one is known.

@@ -157,9 +157,13 @@ ended-before law later grounded j v tag m k last sent le = let first = last.earl
     go (inl e) = inl e
     go (inr s) = inr (lower-ended (high later.history k) (high later.history m) tag (law later k m grounded le sent).high s)
 
--- a verification report changes nothing for reports below the lower bound of the last request before the first that it touches
+left-most : (a b : ℕ) → a ≤ max a b
+left-most a b = omega arith
+
+-- A verification report changes nothing for reports up to the lower bound of the last request before the first that it touches, nor up to
+-- the greatest tag that was kept before that one was sent.
 pub kept-verification : BoundsRise → (g : Ground) (n : Kept) (j : ℕ) (v : Verification) (from m : ℕ) → IsGrounded g → IsGrounded (with_history g (with_packet g.history n))
-    → IsReport n (tag_of n) j v → j < length g.history.requests → IsLastBefore (with_packet g.history n) j v (tag_of n) m → from ≤ low (with_packet g.history n) m + 1
+    → IsReport n (tag_of n) j v → j < length g.history.requests → IsLastBefore (with_packet g.history n) j v (tag_of n) m → from ≤ max (low (with_packet g.history n) m) (floor g.history (m + 1)) + 1
     → AreSameBelow (Some from) g (with_history g (with_packet g.history n))
 kept-verification law g n j v from m grounded later_grounded is sent last limit = same-kept (Some from) g n same unseen
   where
@@ -175,17 +179,25 @@ kept-verification law g n j v from m grounded later_grounded is sent last limit 
     before : (k : ℕ) → k ≤ m → IsSame h later k
     before k le = earlier-same h n j v is k (ended-before law (with_history g later) later_grounded j v (tag_of n) m k last within le)
 
+    -- no report up to the bound comes after a request behind the last one
+    hidden : (tag : ℕ) → tag < from → (k : ℕ) → m < k → k < length h.requests → (tag ≤ low h k) × (tag ≤ low later k)
+    hidden tag below k lt l =
+        let at : low later m ≡ low h m = (before m (omega arith)).low in
+        let old : low h m ≤ low h k = (law g m k grounded (omega (arith, lt)) l).low in
+        let new : low later m ≤ low later k = (law (with_history g later) m k later_grounded (omega (arith, lt)) l).low in
+        let sent_old : low h (m + 1) ≤ low h k = (law g (m + 1) k grounded (omega (arith, lt)) l).low in
+        let sent_new : low later (m + 1) ≤ low later k = (law (with_history g later) (m + 1) k later_grounded (omega (arith, lt)) l).low in
+        let first_old : floor h (m + 1) ≤ low h (m + 1) = left-most (floor h (m + 1)) (greatest (tags (comes_before (m + 1)) h.kept)) in
+        let first_new : floor h (m + 1) ≤ low later (m + 1) = left-most (floor h (m + 1)) (greatest (tags (comes_before (m + 1)) later.kept)) in
+        let most : from ≤ max (low later m) (floor h (m + 1)) + 1 = limit in
+        (omega (arith, below, most, at, old, sent_old, first_old), omega (arith, below, most, at, old, new, sent_new, first_new))
+
     same : (k : ℕ) → k < length h.requests → IsSameTo (Some from) h later k
     same k l = go (either-side k m)
       where
         go : (k ≤ m) ⊎ (m < k) → IsSameTo (Some from) h later k
         go (inl le) = inl (before k le)
-        go (inr lt) =
-            inr (λ tag below.
-            let at : low later m ≡ low h m = (before m (omega arith)).low in
-            let old : low h m ≤ low h k = (law g m k grounded (omega (arith, lt)) l).low in
-            let new : low later m ≤ low later k = (law (with_history g later) m k later_grounded (omega (arith, lt)) l).low in
-            (omega (arith, below, limit, at, old), omega (arith, below, limit, new)))
+        go (inr lt) = inr (λ tag below. hidden tag below k lt l)
 
     unseen : (key : Key) (tag : ℕ) → IsBelow tag (Some from) → IsUnseen key tag n
     unseen key tag below = inl (ap (λ body. reported_structure key body) is.body)
@@ -221,18 +233,18 @@ request-sent g r from limit = same-sent (Some from) g r (λ k l. inl (sent-same 
 
 -- ---- as the code asks for them
 
-pub verification-kept : BoundsRise → (g later : Ground) (n : Kept) (j : ℕ) (v : Verification) (tag m bound from : ℕ) → later ≡ with_history g (with_packet g.history n) → IsGrounded g → IsGrounded later
-    → n.number ≡ Some j → n.report.body ≡ Verify v → tag ≡ tag_of n → j < length later.history.requests → IsLastBefore later.history j v tag m → bound ≡ low later.history m → from ≤ bound + 1
+pub verification-kept : BoundsRise → (g later : Ground) (n : Kept) (j : ℕ) (v : Verification) (tag m from : ℕ) → later ≡ with_history g (with_packet g.history n) → IsGrounded g → IsGrounded later
+    → n.number ≡ Some j → n.report.body ≡ Verify v → tag ≡ tag_of n → j < length later.history.requests → IsLastBefore later.history j v tag m → from ≤ max (low later.history m) (floor later.history (m + 1)) + 1
     → AreSameBelow (Some from) g later
-verification-kept law g later n j v tag m bound from e grounded later_grounded number body stamp sent last low_is limit =
+verification-kept law g later n j v tag m from e grounded later_grounded number body stamp sent last limit =
     subst Claim (sym e)
     (λ gr s l b.
     kept-verification law g n j v from m grounded gr (record { number = number; body = body; stamped = refl }) s
-    (subst (λ t. IsLastBefore (with_packet g.history n) j v t m) stamp l) (omega (arith, limit, b)))
-    later_grounded sent last low_is
+    (subst (λ t. IsLastBefore (with_packet g.history n) j v t m) stamp l) b)
+    later_grounded sent last limit
   where
     Claim : Ground → Type 0
-    Claim x = IsGrounded x → j < length x.history.requests → IsLastBefore x.history j v tag m → bound ≡ low x.history m → AreSameBelow (Some from) g x
+    Claim x = IsGrounded x → j < length x.history.requests → IsLastBefore x.history j v tag m → from ≤ max (low x.history m) (floor x.history (m + 1)) + 1 → AreSameBelow (Some from) g x
 
 untold-body : (key : Key) (body : ReportBody) → tells_structure body ≡ false → reported_structure key body ≡ None
 untold-body key (tell.Verify v) e = refl

@@ -1,7 +1,7 @@
 //! From which tag on an entry may have changed verdicts.
-ghost use Rattle.std.specs.Prelude.{◌≡◌, ◌<◌, ℕ, List, IfSome, true, is_some, length};
+ghost use Rattle.std.specs.Prelude.{◌≡◌, ◌<◌, ◌≤◌, ◌+◌, ℕ, List, IfSome, true, is_some, length, max};
 ghost use Rattle.pus_messages.specs.Messages.{protocol};
-ghost use Rattle.ground_history.specs.Evidence.{high};
+ghost use Rattle.ground_history.specs.Evidence.{floor, high, low};
 ghost use Rattle.ground_history.specs.Histories.{got_kind, history_with_got, with_sent, tag_of};
 ghost use Rattle.ground_history.specs.Indexes as indexes;
 ghost use Rattle.pus_messages.specs.declared.message.ReportBody.TheVariants.{Verify};
@@ -73,9 +73,20 @@ fn changed_by_verification(history: &History, kept: &KeptPacket, verification: &
         return 0;
     }
     match last_before(history, number, verification, kept.tag()) {
-        Some(last) => history.low(last).saturating_add(1),
+        Some(last) => unseen_below(history, last),
         None => 1,
     }
+}
+
+/// One above a tag that no request after one was executed at or below, whatever a report on one of them tells.
+fn unseen_below(history: &History, last: u64) -> u64
+    requires { last + 1 < length history.now.history.requests }
+    ensures { result ≤ max (low history.now.history last) (floor history.now.history (last + 1)) + 1 }
+{
+    let _sent = history.count();
+    let ended = history.low(last);
+    let sent = history.floor(last + 1);
+    ended.max(sent).saturating_add(1)
 }
 
 /// The last request before the first of which a verification report on a request tells something new.

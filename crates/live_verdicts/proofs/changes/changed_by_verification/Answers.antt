@@ -9,9 +9,8 @@ returns-in-Some-last_before c =
     let n = c.args.kept.now in
     let v = c.args.verification.now in
     let sent : c.in-Some.number < length later.history.requests = omega (arith, c.count.ensures) in
-    let limit : c.saturating_add.result ≤ c.low.result + 1 = omega (arith, c.saturating_add.ensures) in
-    verification-kept c.bounds_rise.ensures g later n c.in-Some.number v c.tag.result c.in-Some-last_before.last c.low.result c.saturating_add.result e grounded
-    c.tailoring-tailoring.ensures.grounded (sym c.number.ensures ∙ c.in-Some.is) c.requires c.tag.ensures sent c.in-Some-last_before.ensures c.low.ensures limit
+    verification-kept c.bounds_rise.ensures g later n c.in-Some.number v c.tag.result c.in-Some-last_before.last c.unseen_below.result e grounded
+    c.tailoring-tailoring.ensures.grounded (sym c.number.ensures ∙ c.in-Some.is) c.requires c.tag.ensures sent c.in-Some-last_before.ensures c.unseen_below.ensures
 
 pub returns-in-None : goal.returns-in-None
 returns-in-None c = λ g grounded e. first-kept g c.args.history.now c.args.kept.now c.args.verification.now 1 e c.requires (omega arith)

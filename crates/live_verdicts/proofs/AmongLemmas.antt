@@ -8,10 +8,8 @@ use Rattle.hk_base.specs.TailoringParts.{TailoringParts}
 use Rattle.hk_base.specs.declared.types.Key.{Key}
 use Rattle.hk_base.proofs.Membership.{IsIn, IsIn-filter, IsIn-filter_map, filter_map-IsIn, IsIn-AllByRecursion, AllByRecursion-IsIn}
 use Rattle.pus_messages.specs.declared.message.Report.{Report}
-use Rattle.ground_history.specs.Histories.{Kept, History, tag_of}
-use Rattle.ground_history.specs.Evidence.{low}
+use Rattle.ground_history.specs.Histories.{Sent, Kept, History, tag_of}
 use Rattle.ground_history.specs.Ground.{Ground, IsGrounded}
-use Rattle.ground_history.specs.Rising.{BoundsRise}
 use Rattle.definition_intervals.specs.Openings.{Candidate, candidate}
 use Rattle.definition_intervals.specs.Findings.{IsFormedCandidate}
 use Rattle.definition_intervals.proofs.GatherLemmas.{IsCandidateAt, IsGroundedRequest, candidate-formed, numbered-IsIn, member-at, take-more_at}
@@ -19,7 +17,8 @@ use Rattle.opening_sweeps.specs.Requests.{Start, told_start, told_starts, IsForm
 use Rattle.opening_sweeps.proofs.GatherLemmas.{IsNext}
 use Rattle.live_verdicts.specs.Changes.{told_start_below}
 use Rattle.live_verdicts.specs.Marks.{among, told_between}
-use Rattle.live_verdicts.proofs.SplitLemmas.{AreLate, taken-in, dropped-in}
+use Rattle.live_verdicts.specs.Changes.{unsure, unsures}
+use Rattle.live_verdicts.proofs.SplitLemmas.{taken-in, dropped-in}
 use Rattle.live_verdicts.proofs.ToldLemmas.{from_tag}
 
 length-numbered : {X : Type 0} (n : ℕ) (xs : List X) → length (enumerate_from n xs) ≡ length xs
@@ -35,23 +34,27 @@ numbered-at n zero (y ∷ xs) x e =
 numbered-at n (suc i) (y ∷ xs) x e = let number : n + 1 + i ≡ n + suc i = omega arith in numbered-at (n + 1) i xs x e ∙ ap (λ k. Some (k, x)) number
 
 -- one more request
-among-next : (h : History) (key : Key) (from tag first n : ℕ) (o : Option Candidate) → first ≤ n → n < length h.requests → IsCandidateAt h key from tag n o
-    → among h key from tag first (n + 1) ≡ among h key from tag first n ++ option_to_list o
-among-next h key from tag first n o le l told =
-    let s = member-at h.requests n l in
-    let all = enumerate_from 0 h.requests in
+pub next-numbered : {Y : Type 0} (f : ℕ × Sent → Option Y) (rs : List Sent) (first n : ℕ) (o : Option Y) → first ≤ n → n < length rs → ((s : Sent) → slice_get rs n ≡ Some s → o ≡ f (n, s))
+    → filter_map f (drop first (take (n + 1) (enumerate_from 0 rs))) ≡ filter_map f (drop first (take n (enumerate_from 0 rs))) ++ option_to_list o
+next-numbered {Y} f rs first n o le l told =
+    let s = member-at rs n l in
+    let all = enumerate_from 0 rs in
     let zero_ : 0 + n ≡ n = omega arith in
-    let at : slice_get all n ≡ Some (n, s.0) = numbered-at 0 n h.requests s.0 s.1 ∙ ap (λ k. Some (k, s.0)) zero_ in
-    let long : n ≤ length all = let same = length-numbered 0 h.requests in omega (arith, l, same) in
+    let at : slice_get all n ≡ Some (n, s.0) = numbered-at 0 n rs s.0 s.1 ∙ ap (λ k. Some (k, s.0)) zero_ in
+    let long : n ≤ length all = let same = length-numbered 0 rs in omega (arith, l, same) in
     let front : first ≤ length (take n all) = let same = length-take-le n all long in omega (arith, le, same) in
-    ap (λ xs. filter_map (candidate h key from tag) (drop first xs)) (take-more_at all n (n, s.0) at)
-    ∙ (ap (λ xs. filter_map (candidate h key from tag) xs) (drop-append-le first (take n all) ((n, s.0) ∷ []) front)
-    ∙ (filter_map-append (candidate h key from tag) (drop first (take n all)) ((n, s.0) ∷ [])
-    ∙ (ap (λ (r : Option Candidate). among h key from tag first n ++ cons_option r []) (sym (told s.0 s.1)) ∙ ap (λ l. among h key from tag first n ++ l) (one o))))
+    ap (λ xs. filter_map f (drop first xs)) (take-more_at all n (n, s.0) at)
+    ∙ (ap (λ xs. filter_map f xs) (drop-append-le first (take n all) ((n, s.0) ∷ []) front)
+    ∙ (filter_map-append f (drop first (take n all)) ((n, s.0) ∷ [])
+    ∙ (ap (λ (r : Option Y). filter_map f (drop first (take n all)) ++ cons_option r []) (sym (told s.0 s.1)) ∙ ap (λ l. filter_map f (drop first (take n all)) ++ l) (one o))))
   where
-    one : (r : Option Candidate) → cons_option r [] ≡ option_to_list r
+    one : (r : Option Y) → cons_option r [] ≡ option_to_list r
     one None = refl
     one (Some c) = refl
+
+among-next : (h : History) (key : Key) (from tag first n : ℕ) (o : Option Candidate) → first ≤ n → n < length h.requests → IsCandidateAt h key from tag n o
+    → among h key from tag first (n + 1) ≡ among h key from tag first n ++ option_to_list o
+among-next h key from tag first n o le l told = next-numbered (candidate h key from tag) h.requests first n o le l told
 
 pub among-more : (h : History) (key : Key) (from tag first n : ℕ) (c : Candidate) (before after : List Candidate) → first ≤ n → n < length h.requests → IsCandidateAt h key from tag n (Some c)
     → before ≡ among h key from tag first n → after ≡ before ++ c ∷ [] → after ≡ among h key from tag first (n + 1)
@@ -107,9 +110,3 @@ told-formed t h key from tag all =
     told : (b : Bool) (o : Option Start) (s : Start) → if◌then◌else◌ {A = Option Start} b o None ≡ Some s → o ≡ Some s
     told true o s e = e
     told false o s e = absurd (let no : None ≡ Some s → ⊥ = λ p. cc in no e)
-
-pub late-from : BoundsRise → (g : Ground) (end tag : ℕ) → IsGrounded g → (end < length g.history.requests → tag ≤ low g.history end) → AreLate g.history end tag
-late-from law g end tag grounded next k le l =
-    let first = next (omega (arith, le, l)) in
-    let rise = (law g end k grounded le l).low in
-    omega (arith, first, rise)

@@ -31,7 +31,7 @@ pub alike-covered : (fs gs : List Find) → AreAlike fs gs → AreCovered fs gs 
 alike-covered fs gs alike =
     (λ f i. has-in gs f (AllByRecursion-IsIn (HasSame gs) f fs alike.there i), λ g i. has-in fs g (AllByRecursion-IsIn (HasSame fs) g gs alike.back i))
 
-covered-alike : (fs gs : List Find) → AreCovered fs gs → AreCovered gs fs → AreAlike fs gs
+pub covered-alike : (fs gs : List Find) → AreCovered fs gs → AreCovered gs fs → AreAlike fs gs
 covered-alike fs gs there back =
     record {
       there = IsIn-AllByRecursion (HasSame gs) fs (λ f i. let g = there f i in in-has gs f g.0 g.1 g.2);
@@ -112,3 +112,7 @@ alike-added fs gs found f same alike = covered-alike (fs ++ f ∷ []) (gs ++ fou
         go (inl j) = let g = p.1 x j in (g.0, IsIn-left g.0 fs (f ∷ []) g.1, g.2)
         go (inr (inl e)) = (f, IsIn-right f fs (f ∷ []) (inl refl), subst (λ (y : Find). AreSameFound y f) (sym e) same)
         go (inr (inr j)) = absurd j
+
+-- what is the same as what is found after a request leaves it as it was
+pub same-after : (f after found : Find) → AreSameFound f after → AreSameFound after found → AreSameFound f found
+same-after f after found a b = same-trans f after found a b

@@ -1,130 +1,160 @@
 -- Marks that are held while more is known.
-use Rattle.std.proofs.Common.{arith, ◌≡◌, ℕ, zero, suc, ◌+◌, ◌<◌, ◌≤◌, refl, sym, ◌∙◌, ap, subst, List, [], ◌∷◌, ◌++◌, length, map, take, drop, get_or, Bool, true, Option, Some, None, append-nil}
-use Rattle.std.specs.Prelude.{filter_map, if◌then◌else◌}
+use Rattle.std.proofs.Common.{arith, ◌≡◌, ℕ, zero, suc, ◌+◌, ◌<◌, ◌≤◌, refl, sym, ◌∙◌, ap, subst, List, [], ◌∷◌, ◌++◌, length, map, take, drop, get_or, Bool, true, false, inl, inr, ◌⊎◌, Option, Some, None, append-nil}
+use Rattle.std.specs.Prelude.{filter, filter_map, slice_get, nat_lt, min, option_map, option_and_then, if◌then◌else◌}
 use Rattle.std.specs.Option.{option_map_or}
-use Rattle.std.specs.List.{All, HoldsAt, enumerate_from}
-use Rattle.std.proofs.lemmas.List.Elements.{All-push}
-use Rattle.std.proofs.lemmas.List.{get_or-take, get_or-drop, length-take-le, length-drop, drop_all}
+use Rattle.std.specs.List.{All, HoldsAt, cons_option, enumerate_from}
+use Rattle.std.proofs.lemmas.Bool.{lt-ltb, le-ltb}
+use Rattle.std.proofs.lemmas.List.Elements.{All-push, filter_map-append}
+use Rattle.std.proofs.lemmas.List.{get_or-take, get_or-drop, length-take-le, length-drop, take-append-drop}
 use Rattle.hk_base.specs.TailoringParts.{TailoringParts}
 use Rattle.hk_base.specs.declared.types.Key.{Key}
 use Rattle.hk_base.specs.Parameters.{key_eq, boot_structure}
+use Rattle.hk_base.proofs.Membership.{some_value, IsIn}
+use Rattle.st03_grammar.specs.Instructions.{StructureChange}
+use Rattle.pus_messages.specs.Changes.{change_by}
 use Rattle.ground_history.specs.Histories.{Sent, History}
+use Rattle.ground_history.specs.Evidence.{outcome}
 use Rattle.ground_history.specs.Ground.{Ground, IsGrounded}
-use Rattle.ground_history.specs.Rising.{BoundsRise}
-use Rattle.definition_intervals.specs.Openings.{Candidate, Opening, candidate, candidates, from_creation, openings}
-use Rattle.definition_intervals.specs.Founds.{found_after_all, first_after_all, IsFormedFound}
-use Rattle.definition_intervals.specs.Bases.{IsBasis, IsFormedBasis}
+use Rattle.definition_intervals.specs.Openings.{Candidate, candidate, candidates, is_possible, is_certain}
+use Rattle.definition_intervals.specs.Founds.{IsFormedFound}
+use Rattle.definition_intervals.specs.Bases.{IsFormedBasis}
 use Rattle.definition_intervals.proofs.StateLemmas.{key_eq-same}
 use Rattle.opening_sweeps.specs.Requests.{Start, boot_starts}
-use Rattle.opening_sweeps.proofs.ListLemmas.{opening_of}
-use Rattle.live_verdicts.specs.Changes.{IsBelow, AreSameBelow, told_below}
-use Rattle.live_verdicts.specs.Marks.{starts_below, found_at, first_at, IsMark, IsNear, StandsFor, AreAlike, is_firm}
+use Rattle.live_verdicts.specs.Changes.{IsBelow, IsUpTo, AreSameBelow, AreUnsureSame, told_below, unsures}
+use Rattle.live_verdicts.specs.Marks.{starts_below, among, passed, AreFound, IsFormedMark, IsMarkOf, IsMark, IsKept, StandsFor, narrowed_to, with_calm, IsPlaceOf, calm_at}
 use Rattle.live_verdicts.specs.declared.mark.Mark.{Mark}
 use Rattle.live_verdicts.specs.declared.mark.StructureMark.{StructureMark}
-use Rattle.live_verdicts.proofs.SplitLemmas.{IsFirm, AreLate, firm-from, candidates-split}
-use Rattle.live_verdicts.proofs.AmongLemmas.{late-from}
-use Rattle.live_verdicts.proofs.ToldLemmas.{told-after}
-use Rattle.live_verdicts.proofs.MarkLemmas.{map-same, starts-opened, later-starts, below-member}
+use Rattle.live_verdicts.proofs.SplitLemmas.{taken-below, dropped-above}
+use Rattle.live_verdicts.proofs.MarkLemmas.{found-same}
 
-first-same : (h later : History) (key : Key) (tag : ℕ) (ss : List Start) → ((start : ℕ) → candidates later key start tag ≡ candidates h key start tag) → first_at later key tag ss ≡ first_at h key tag ss
-first-same h later key tag [] e = refl
-first-same h later key tag (s ∷ []) e = ap (λ cs. first_after_all cs None) (e s.tag)
-first-same h later key tag (s ∷ x ∷ ss) e = first-same h later key tag (x ∷ ss) e
+-- ---- the requests before a number, by all of them
 
--- a mark below what has changed stays one
-pub mark-later : (from : Option ℕ) (g later : Ground) (key : Key) (m : Mark) → AreSameBelow from g later → IsBelow m.tag from → IsMark g key m → IsMark later key m
-mark-later from g later key m same below mark =
+filter-all : {X Y : Type 0} (p : Y → Bool) (f : X → Option Y) (xs : List X) → ((x : X) (y : Y) → IsIn x xs → f x ≡ Some y → p y ≡ true) → filter p (filter_map f xs) ≡ filter_map f xs
+filter-all p f [] all = refl
+filter-all {X} {Y} p f (x ∷ xs) all = go (f x) refl (filter-all p f xs (λ z y i e. all z y (inr i) e))
+  where
+    keep : (y : Y) (b : Bool) → b ≡ true → filter p (filter_map f xs) ≡ filter_map f xs → (if b then y ∷ filter p (filter_map f xs) else filter p (filter_map f xs)) ≡ y ∷ filter_map f xs
+    keep y true e h = ap (λ l. y ∷ l) h
+    keep y false e h = absurd (let no : false ≡ true → ⊥ = λ q. cc in no e)
+
+    go : (o : Option Y) → f x ≡ o → filter p (filter_map f xs) ≡ filter_map f xs → filter p (cons_option o (filter_map f xs)) ≡ cons_option o (filter_map f xs)
+    go None e h = h
+    go (Some y) e h = keep y (p y) (all x y (inl refl) e) h
+
+filter-none : {X Y : Type 0} (p : Y → Bool) (f : X → Option Y) (xs : List X) → ((x : X) (y : Y) → IsIn x xs → f x ≡ Some y → p y ≡ false) → filter p (filter_map f xs) ≡ []
+filter-none p f [] all = refl
+filter-none {X} {Y} p f (x ∷ xs) all = go (f x) refl (filter-none p f xs (λ z y i e. all z y (inr i) e))
+  where
+    leave : (y : Y) (b : Bool) → b ≡ false → filter p (filter_map f xs) ≡ [] → (if b then y ∷ filter p (filter_map f xs) else filter p (filter_map f xs)) ≡ []
+    leave y true e h = absurd (let no : true ≡ false → ⊥ = λ q. cc in no e)
+    leave y false e h = h
+
+    go : (o : Option Y) → f x ≡ o → filter p (filter_map f xs) ≡ [] → filter p (cons_option o (filter_map f xs)) ≡ []
+    go None e h = h
+    go (Some y) e h = leave y (p y) (all x y (inl refl) e) h
+
+filter-append : {Y : Type 0} (p : Y → Bool) (xs ys : List Y) → filter p (xs ++ ys) ≡ filter p xs ++ filter p ys
+filter-append p [] ys = refl
+filter-append p (x ∷ xs) ys = go (p x) (filter-append p xs ys)
+  where
+    go : (b : Bool) → filter p (xs ++ ys) ≡ filter p xs ++ filter p ys
+        → (if b then x ∷ filter p (xs ++ ys) else filter p (xs ++ ys)) ≡ (if b then x ∷ filter p xs else filter p xs) ++ filter p ys
+    go true h = ap (λ l. x ∷ l) h
+    go false h = h
+
+-- a candidate has the number of its request
+candidate-number : (h : History) (key : Key) (start tag : ℕ) (x : ℕ × Sent) (c : Candidate) → candidate h key start tag x ≡ Some c → c.number ≡ x.0
+candidate-number h key start tag x c e = go (is_possible h start tag x.0) (option_and_then (change_by key) x.1.request) e
+  where
+    go : (b : Bool) (o : Option (ℕ × StructureChange))
+        → (if b then option_map (λ (d : ℕ × StructureChange). record { number = x.0; change = d.1; certain = is_certain h start tag x.0; outcome = outcome h x.0 d.0 }) o else None) ≡ Some c → c.number ≡ x.0
+    go true (Some d) p = ap (λ (y : Candidate). y.number) (sym (some_value _ c p))
+    go true None p = absurd (let no : None ≡ Some c → ⊥ = λ q. cc in no p)
+    go false o p = absurd (let no : None ≡ Some c → ⊥ = λ q. cc in no p)
+
+front-of : (h : History) (key : Key) (start tag past : ℕ) → filter (λ (c : Candidate). nat_lt c.number past) (candidates h key start tag) ≡ among h key start tag 0 past
+front-of h key start tag past =
+    ap (λ xs. filter before (filter_map f xs)) (sym (take-append-drop past all))
+    ∙ (ap (λ cs. filter before cs) (filter_map-append f (take past all) (drop past all))
+    ∙ (filter-append before (filter_map f (take past all)) (filter_map f (drop past all))
+    ∙ (ap (λ cs. cs ++ filter before (filter_map f (drop past all)))
+    (filter-all before f (take past all)
+    (λ x c i e. let number = candidate-number h key start tag x c e in let l = taken-below 0 past h.requests x i in lt-ltb c.number past (omega (arith, number, l))))
+    ∙ (ap (λ cs. filter_map f (take past all) ++ cs)
+    (filter-none before f (drop past all)
+    (λ x c i e. let number = candidate-number h key start tag x c e in let l = (dropped-above 0 past h.requests x i).0 in le-ltb c.number past (omega (arith, number, l))))
+    ∙ append-nil (filter_map f (take past all))))))
+  where
+    f : ℕ × Sent → Option Candidate
+    f = candidate h key start tag
+
+    before : Candidate → Bool
+    before c = nat_lt c.number past
+
+    all : List (ℕ × Sent)
+    all = enumerate_from 0 h.requests
+
+-- ---- a mark while more is known
+
+narrowed-below : (calm : ℕ) (touched : Option ℕ) (n : ℕ) → n ≤ narrowed_to calm touched → (n ≤ calm) × IsUpTo n touched
+narrowed-below calm None n le = (le, tt)
+narrowed-below calm (Some k) n le = (omega (arith, le), omega (arith, le))
+
+narrowed-above : (calm : ℕ) (touched : Option ℕ) (n : ℕ) → n ≤ calm → IsUpTo n touched → n ≤ narrowed_to calm touched
+narrowed-above calm None n le up = le
+narrowed-above calm (Some k) n le up = omega (arith, le, up)
+
+below-lower : (from : Option ℕ) (early tag : ℕ) → early ≤ tag → IsBelow tag from → IsBelow early from
+below-lower None early tag le below = tt
+below-lower (Some from) early tag le below = omega (arith, le, below)
+
+-- a mark that stays is one of what is known later, as far as no request was touched
+pub mark-later : (from touched : Option ℕ) (g later : Ground) (key : Key) (m : Mark) → AreSameBelow from g later → AreUnsureSame touched g later → IsKept m from touched → IsMark g key m
+    → IsMark later key (with_calm m (narrowed_to m.calm touched))
+mark-later from touched g later key m same unsure kept mark =
     record {
-      finds = subst (λ fs. AreAlike fs m.finds.items) (sym finds) mark.finds;
-      formed = subst (λ t. All (IsFormedFound t) m.finds.items) (sym same.tailoring) mark.formed;
-      first = λ l. mark.first (subst (λ (ss : List Start). 1 ≤ length ss) starts l) ∙ sym first;
-      basis = subst (λ t. IsBasis t (openings later.tailoring later.history key m.tag) m.basis) (sym same.tailoring)
-          (subst (λ os. IsBasis g.tailoring os m.basis) (sym (same.openings key m.tag below)) mark.basis);
-      valid = subst (λ t. IsFormedBasis t m.basis) (sym same.tailoring) mark.valid;
+      mark =
+          record {
+            behind = mark.mark.behind;
+            order = narrowed-above m.calm touched m.listed mark.mark.order kept.1;
+            within =
+                let below = (narrowed-below m.calm touched (narrowed_to m.calm touched) (omega arith)).0 in
+                let w = mark.mark.within in
+                let more = unsure.count in
+                omega (arith, below, w, more);
+            formed =
+                subst (λ t. IsFormedMark t (with_calm m (narrowed_to m.calm touched))) (sym same.tailoring)
+                (record { finds = mark.mark.formed.finds; basis = mark.mark.formed.basis; valid = mark.mark.formed.valid });
+            found = found;
+          };
+      opened = mark.opened;
+      told = same.told key m.tag kept.0 ∙ (mark.told ∙ sym (same.told key m.opened (below-lower from m.opened m.tag mark.opened kept.0)));
     }
   where
     starts : starts_below later.tailoring later.history key m.tag ≡ starts_below g.tailoring g.history key m.tag
     starts =
         ap (λ t. boot_starts t later.history key ++ told_below later.history key m.tag) same.tailoring
         ∙ (ap (λ (b : Bool). (if b then record { tag = 0; state = boot_structure g.tailoring key } ∷ [] else []) ++ told_below later.history key m.tag) same.known
-        ∙ ap (λ ss. boot_starts g.tailoring g.history key ++ ss) (same.told key m.tag below))
+        ∙ ap (λ ss. boot_starts g.tailoring g.history key ++ ss) (same.told key m.tag kept.0))
 
-    cs : (start : ℕ) → candidates later.history key start m.tag ≡ candidates g.history key start m.tag
-    cs start = same.candidates key start m.tag below
+    front : (s : ℕ) → among later.history key s m.tag 0 m.past ≡ among g.history key s m.tag 0 m.past
+    front s =
+        sym (front-of later.history key s m.tag m.past)
+        ∙ (ap (λ cs. filter (λ (c : Candidate). nat_lt c.number m.past) cs) (same.candidates key s m.tag kept.0) ∙ front-of g.history key s m.tag m.past)
 
-    finds : map (found_at later.tailoring later.history key m.tag) (starts_below later.tailoring later.history key m.tag) ≡ map (found_at g.tailoring g.history key m.tag) (starts_below g.tailoring g.history key m.tag)
-    finds =
-        ap (λ ss. map (found_at later.tailoring later.history key m.tag) ss) starts
-        ∙ (ap (λ t. map (found_at t later.history key m.tag) (starts_below g.tailoring g.history key m.tag)) same.tailoring
-        ∙ map-same (found_at g.tailoring later.history key m.tag) (found_at g.tailoring g.history key m.tag) (starts_below g.tailoring g.history key m.tag)
-        (λ s i. ap (λ l. found_after_all g.tailoring l (Some (s.state ∷ []))) (cs s.tag)))
-
-    first : first_at later.history key m.tag (starts_below later.tailoring later.history key m.tag) ≡ first_at g.history key m.tag (starts_below g.tailoring g.history key m.tag)
-    first = ap (λ ss. first_at later.history key m.tag ss) starts ∙ first-same g.history later.history key m.tag (starts_below g.tailoring g.history key m.tag) cs
-
--- where nothing comes between, the openings are those at the mark
-pub near-openings : BoundsRise → (g : Ground) (key : Key) (m : Mark) (tag : ℕ) → IsGrounded g → is_firm g.history m tag ≡ true → IsNear g.history m tag
-    → openings g.tailoring g.history key tag ≡ openings g.tailoring g.history key m.tag
-near-openings law g key m tag grounded firmly near =
-    starts-opened t h key tag
-    ∙ (ap (λ ss. map (opening_of h key tag) ss) starts
-    ∙ (map-same (opening_of h key tag) (opening_of h key m.tag) (starts_below t h key m.tag)
-    (λ s i. ap (λ l. opening_by s l) (cs s.tag (below-member t h key m.tag s i))) ∙ sym (starts-opened t h key m.tag)))
-  where
-    t : TailoringParts
-    t = g.tailoring
-
-    h : History
-    h = g.history
-
-    firm : IsFirm h m tag
-    firm = firm-from law g m tag grounded firmly
-
-    late : AreLate h m.listed tag
-    late = late-from law g m.listed tag grounded near.next
-
-    starts : starts_below t h key tag ≡ starts_below t h key m.tag
-    starts =
-        later-starts g key m.tag tag grounded firm.later
-        ∙ (ap (λ ss. starts_below t h key m.tag ++ ss) (told-after key m.tag tag h.kept near.untold) ∙ append-nil (starts_below t h key m.tag))
-
-    nothing-among : (n : ℕ) (xs : List (ℕ × Sent)) → drop n (take n xs) ≡ []
-    nothing-among n xs = drop_all n (take n xs) (length-most n xs)
-      where
-        length-most : (n : ℕ) (xs : List (ℕ × Sent)) → length (take n xs) ≤ n
-        length-most zero xs = omega arith
-        length-most (suc n) [] = omega arith
-        length-most (suc n) (x ∷ xs) = let rest = length-most n xs in omega (arith, rest)
-
-    cs : (start : ℕ) → start ≤ m.tag → candidates h key start tag ≡ candidates h key start m.tag
-    cs start le =
-        candidates-split h key m start tag m.listed firm le late
-        ∙ (ap (λ xs. candidates h key start m.tag ++ filter_map (candidate h key m.tag tag) xs) (nothing-among m.listed (enumerate_from 0 h.requests)) ∙ append-nil (candidates h key start m.tag))
-
-    opening_by : Start → List Candidate → Opening
-    opening_by s l = option_map_or (λ rest. record { tag = s.tag; state = None; requests = rest }) (from_creation l) (record { tag = s.tag; state = s.state; requests = l })
+    found : (n : ℕ) → m.listed ≤ n → n ≤ narrowed_to m.calm touched
+        → AreFound later.tailoring (passed later.history key m.tag m.past n) (starts_below later.tailoring later.history key m.tag) m.finds.items m.first
+    found n at to =
+        let below = narrowed-below m.calm touched n to in
+        let w = mark.mark.within in
+        let le : n ≤ length g.history.requests = (let b = below.0 in omega (arith, b, w)) in
+        subst (λ ss. AreFound later.tailoring (passed later.history key m.tag m.past n) ss m.finds.items m.first) (sym starts)
+        (subst (λ t. AreFound t (passed later.history key m.tag m.past n) (starts_below g.tailoring g.history key m.tag) m.finds.items m.first) (sym same.tailoring)
+        (found-same g.tailoring (passed g.history key m.tag m.past n) (passed later.history key m.tag m.past n) (starts_below g.tailoring g.history key m.tag) m.finds.items m.first
+        (λ s i. sym (ap (λ cs. cs ++ unsures later.history key m.past n) (front s.tag) ∙ ap (λ us. among g.history key s.tag m.tag 0 m.past ++ us) (unsure.unsures key m.past n le below.1)))
+        (mark.mark.found n at below.0)))
 
 -- ---- what is held
-
-pub stands-below : (from : ℕ) (g later : Ground) (held : List StructureMark) (n : ℕ) → n ≤ length held → All (λ (x : StructureMark). x.mark.tag < from) (take n held) → AreSameBelow (Some from) g later
-    → StandsFor held g → StandsFor (take n held) later
-stands-below from g later held n le below same stands =
-    record {
-      marks = λ k d l.
-          let long = length-take-le n held le in
-          let within : k < length held = omega (arith, l, long, le) in
-          let low_ : k < n = omega (arith, l, long) in
-          let x = get_or (take n held) k d in
-          let is : x ≡ get_or held k d = get_or-take n held k d low_ in
-          mark-later (Some from) g later x.key x.mark same (below k d l) (subst (λ (y : StructureMark). IsMark g y.key y.mark) (sym is) (stands.marks k d within));
-    }
-
-pub stands-same : (g later : Ground) (held : List StructureMark) → AreSameBelow None g later → StandsFor held g → StandsFor held later
-stands-same g later held same stands = record { marks = λ k d l. let x = get_or held k d in mark-later None g later x.key x.mark same tt (stands.marks k d l) }
-
-pub stands-none : (from : Option ℕ) (g later : Ground) (held : List StructureMark) → ((f : ℕ) → from ≡ Some f → ⊥) → AreSameBelow from g later → StandsFor held g → StandsFor held later
-stands-none None g later held none same stands = stands-same g later held same stands
-stands-none (Some f) g later held none same stands = absurd (none f refl)
 
 pub stands-more : (g : Ground) (held : List StructureMark) (x : StructureMark) → StandsFor held g → IsMark g x.key x.mark → StandsFor (held ++ x ∷ []) g
 stands-more g held x stands mark = record { marks = All-push (λ (y : StructureMark). IsMark g y.key y.mark) held x stands.marks mark }
@@ -138,13 +168,10 @@ stands-drop g held n le stands =
           subst (λ (y : StructureMark). IsMark g y.key y.mark) (sym (get_or-drop n held k d)) (stands.marks (n + k) d within);
     }
 
--- the place of a mark of a structure that is firm for a tag
-abbrev pub IsHeldFor : History → Key → ℕ → List StructureMark → ℕ → Type 0
-IsHeldFor h key tag held place = (place < length held) × HoldsAt (λ (x : StructureMark). (key_eq x.key key ≡ true) × (is_firm h x.mark tag ≡ true)) held place
-
-pub held-at : (h : History) (key : Key) (tag : ℕ) (held : List StructureMark) (place : ℕ) (x : StructureMark) → IsHeldFor h key tag held place → x ≡ get_or held place x
-    → (key_eq x.key key ≡ true) × (is_firm h x.mark tag ≡ true)
-held-at h key tag held place x told is = subst (λ (y : StructureMark). (key_eq y.key key ≡ true) × (is_firm h y.mark tag ≡ true)) (sym is) (told.1 x)
+-- what is said of a place is so of the mark there
+pub place-at : (Wanted : Mark → Type 0) (key : Key) (held : List StructureMark) (place : ℕ) (x : StructureMark) → IsPlaceOf Wanted key held place → x ≡ get_or held place x
+    → (key_eq x.key key ≡ true) × Wanted x.mark
+place-at Wanted key held place x told is = subst (λ (y : StructureMark). (key_eq y.key key ≡ true) × Wanted y.mark) (sym is) (told.1 x)
 
 -- a mark at a place, with its structure's key
 pub held-mark : (g : Ground) (key : Key) (held : List StructureMark) (place : ℕ) (x : StructureMark) → StandsFor held g → place < length held → x ≡ get_or held place x → key_eq x.key key ≡ true → IsMark g key x.mark

@@ -3,6 +3,8 @@ pub mod KeptLemmas
 pub mod SplitLemmas
 pub mod ToldLemmas
 pub mod FindLemmas
-pub mod MarkLemmas
 pub mod AmongLemmas
+pub mod MarkLemmas
+pub mod GrowLemmas
 pub mod HeldLemmas
+pub mod PlaceLemmas

@@ -11,7 +11,7 @@ use Rattle.hk_base.specs.declared.types.Key.{Key}
 use Rattle.hk_base.specs.declared.types.Structure.{Structure}
 use Rattle.hk_base.proofs.Membership.{some_value, IsIn, IsIn-append, IsIn-filter, IsIn-filter_map, AllByRecursion-IsIn, IsIn-AllByRecursion}
 use Rattle.ground_history.specs.Histories.{Kept, History, tag_of}
-use Rattle.ground_history.specs.Ground.{Ground, IsGrounded, HaveRisingTags}
+use Rattle.ground_history.specs.Ground.{Ground, IsGrounded, HaveRisingTags, newest_told}
 use Rattle.definition_intervals.specs.Openings.{Candidate, candidate, candidates, openings, opening, report_opening, reported_structure}
 use Rattle.definition_intervals.specs.Bases.{IsBasis, IsFormedBasis}
 use Rattle.definition_intervals.specs.Founds.{found_after_all, first_after_all, IsFormedFound, IsBasisOf, OpeningsAreFound, SameIsFound, FindsGiveBases}
@@ -24,11 +24,11 @@ use Rattle.opening_sweeps.proofs.FoldLemmas.{after_all-append, first_all-append}
 use Rattle.opening_sweeps.proofs.ListLemmas.{opening_of, all-found, last_start, AreInOrder, named-last}
 use Rattle.opening_sweeps.proofs.BasisLemmas.{basis-covered}
 use Rattle.live_verdicts.specs.Changes.{told_start_below, told_below}
-use Rattle.live_verdicts.specs.Marks.{starts_below, found_at, first_found, first_at, AreAlike, IsMark, among, told_between, found_by, first_by}
+use Rattle.live_verdicts.specs.Marks.{starts_below, found_at, first_found, first_at, AreAlike, AreFound, IsFormedMark, IsMarkOf, IsMark, HoldsFor, GoesOn, IsNear, AreListedBelow, among, passed, told_between, found_by, first_by}
 use Rattle.live_verdicts.specs.declared.mark.Mark.{Mark}
-use Rattle.live_verdicts.proofs.SplitLemmas.{IsFirm, AreLate, late-none, candidates-split, candidates-behind}
+use Rattle.live_verdicts.proofs.SplitLemmas.{candidates-front, passed-same, passed-split, passed-behind, late-none}
 use Rattle.live_verdicts.proofs.SameLemmas.{filter_map-none}
-use Rattle.live_verdicts.proofs.ToldLemmas.{told-split}
+use Rattle.live_verdicts.proofs.ToldLemmas.{told-split, told-after}
 use Rattle.live_verdicts.proofs.FindLemmas.{alike-covered, alike-refl, alike-trans, alike-after}
 
 -- ---- the states that openings begin with
@@ -37,7 +37,7 @@ pub map-same : {X Y : Type 0} (f g : X → Y) (xs : List X) → ((x : X) → IsI
 map-same f g [] h = refl
 map-same f g (x ∷ xs) h = ap (λ y. y ∷ map f xs) (h x (inl refl)) ∙ ap (λ ys. g x ∷ ys) (map-same f g xs (λ y i. h y (inr i)))
 
-map-twice : {X Y Z : Type 0} (g : Y → Z) (f : X → Y) (xs : List X) → map g (map f xs) ≡ map (λ x. g (f x)) xs
+pub map-twice : {X Y Z : Type 0} (g : Y → Z) (f : X → Y) (xs : List X) → map g (map f xs) ≡ map (λ x. g (f x)) xs
 map-twice g f [] = refl
 map-twice g f (x ∷ xs) = ap (λ ys. g (f x) ∷ ys) (map-twice g f xs)
 
@@ -129,49 +129,68 @@ starts-opened t h key tag = go h.known
 
 -- ---- the first open change of the latest opening
 
-first-last : (h : History) (key : Key) (tag : ℕ) (s : Start) (ss : List Start) → first_at h key tag (s ∷ ss) ≡ first_after_all (candidates h key (last_start s ss).tag tag) None
-first-last h key tag s [] = refl
-first-last h key tag s (x ∷ ss) = first-last h key tag x ss
+first-last : (requests : ℕ → List Candidate) (s : Start) (ss : List Start) → first_at requests (s ∷ ss) ≡ first_after_all (requests (last_start s ss).tag) None
+first-last requests s [] = refl
+first-last requests s (x ∷ ss) = first-last requests x ss
 
-first-behind : (h : History) (key : Key) (tag : ℕ) (ss : List Start) (s : Start) (rest : List Start) → first_at h key tag (ss ++ s ∷ rest) ≡ first_at h key tag (s ∷ rest)
-first-behind h key tag [] s rest = refl
-first-behind h key tag (x ∷ []) s rest = refl
-first-behind h key tag (x ∷ y ∷ ss) s rest = first-behind h key tag (y ∷ ss) s rest
+first-behind : (requests : ℕ → List Candidate) (ss : List Start) (s : Start) (rest : List Start) → first_at requests (ss ++ s ∷ rest) ≡ first_at requests (s ∷ rest)
+first-behind requests [] s rest = refl
+first-behind requests (x ∷ []) s rest = refl
+first-behind requests (x ∷ y ∷ ss) s rest = first-behind requests (y ∷ ss) s rest
 
-first-on : (h : History) (key : Key) (m : Mark) (tag end : ℕ) → IsFirm h m tag → AreLate h end tag → (ss : List Start) → ((s : Start) → IsIn s ss → s.tag ≤ m.tag) → 1 ≤ length ss
-    → first_at h key tag ss ≡ first_after_all (among h key m.tag tag m.listed end) (first_at h key m.tag ss)
-first-on h key m tag end firm late [] low l = absurd (omega (arith, l))
-first-on h key m tag end firm late (s ∷ []) low l =
-    ap (λ cs. first_after_all cs None) (candidates-split h key m s.tag tag end firm (low s (inl refl)) late)
-    ∙ first_all-append (candidates h key s.tag m.tag) (among h key m.tag tag m.listed end) None
-first-on h key m tag end firm late (s ∷ x ∷ ss) low l = first-on h key m tag end firm late (x ∷ ss) (λ y i. low y (inr i)) (omega arith)
+first-same : (requests others : ℕ → List Candidate) (ss : List Start) → ((s : Start) → IsIn s ss → requests s.tag ≡ others s.tag) → first_at requests ss ≡ first_at others ss
+first-same requests others [] same = refl
+first-same requests others (s ∷ []) same = ap (λ cs. first_after_all cs None) (same s (inl refl))
+first-same requests others (s ∷ x ∷ ss) same = first-same requests others (x ∷ ss) (λ y i. same y (inr i))
 
-first-new : (h : History) (key : Key) (m : Mark) (tag end : ℕ) → IsFirm h m tag → AreLate h end tag → (s : Start) (ss : List Start) (given : Option ℕ) → ((x : Start) → IsIn x (s ∷ ss) → m.tag ≤ x.tag)
-    → first_by h key tag m.past end (s ∷ ss) given ≡ first_at h key tag (s ∷ ss)
-first-new h key m tag end firm late s [] given high = ap (λ cs. first_after_all cs None) (sym (candidates-behind h key m s.tag tag end firm (high s (inl refl)) late))
-first-new h key m tag end firm late s (x ∷ ss) given high =
-    first-new h key m tag end firm late x ss (first_after_all (among h key s.tag tag m.past end) None) (λ y i. high y (inr i))
+-- by the same requests the same is found
+pub found-same : (t : TailoringParts) (requests others : ℕ → List Candidate) (ss : List Start) (fs : List (Option (List (Option Structure)))) (change : Option ℕ)
+    → ((s : Start) → IsIn s ss → requests s.tag ≡ others s.tag) → AreFound t requests ss fs change → AreFound t others ss fs change
+found-same t requests others ss fs change same are =
+    record {
+      finds = subst (λ xs. AreAlike xs fs) (map-same (found_at t requests) (found_at t others) ss (λ s i. ap (λ cs. found_after_all t cs (first_found s)) (same s i))) are.finds;
+      first = λ l. are.first l ∙ first-same requests others ss same;
+    }
+
+first-on : (h : History) (key : Key) (m : Mark) (tag n end : ℕ) → GoesOn h m n tag → m.opened ≤ tag → n ≤ end → (ss : List Start) → ((s : Start) → IsIn s ss → s.tag ≤ m.opened) → 1 ≤ length ss
+    → first_at (λ s. among h key s tag 0 end) ss ≡ first_after_all (among h key m.opened tag n end) (first_at (passed h key m.tag m.past n) ss)
+first-on h key m tag n end goes below order [] low l = absurd (omega (arith, l))
+first-on h key m tag n end goes below order (s ∷ []) low l =
+    ap (λ cs. first_after_all cs None) (passed-split h key m s.tag tag n end goes below (low s (inl refl)) order)
+    ∙ first_all-append (passed h key m.tag m.past n s.tag) (among h key m.opened tag n end) None
+first-on h key m tag n end goes below order (s ∷ x ∷ ss) low l = first-on h key m tag n end goes below order (x ∷ ss) (λ y i. low y (inr i)) (omega arith)
+
+first-new : (h : History) (key : Key) (m : Mark) (tag n end : ℕ) → GoesOn h m n tag → m.past ≤ end → (s : Start) (ss : List Start) (given : Option ℕ) → ((x : Start) → IsIn x (s ∷ ss) → m.tag ≤ x.tag)
+    → first_by h key tag m.past end (s ∷ ss) given ≡ first_at (λ x. among h key x tag 0 end) (s ∷ ss)
+first-new h key m tag n end goes order s [] given high = ap (λ cs. first_after_all cs None) (sym (passed-behind h key m s.tag tag end goes.holds.passed (high s (inl refl)) order))
+first-new h key m tag n end goes order s (x ∷ ss) given high =
+    first-new h key m tag n end goes order x ss (first_after_all (among h key s.tag tag m.past end) None) (λ y i. high y (inr i))
 
 -- ---- the mark at the later tag
 
 -- what is found at the later tag by those that a mark holds, and by those that open behind it
-pub record IsLater (g : Ground) (key : Key) (m : Mark) (tag end : ℕ) (finds : List (Option (List (Option Structure)))) (first : Option ℕ) (later : List (Option (List (Option Structure)))) (last : Option ℕ) : Type 0 where
-  pub early : AreAlike (map (found_after_all g.tailoring (among g.history key m.tag tag m.listed end)) m.finds.items) finds
-  pub change : first ≡ first_after_all (among g.history key m.tag tag m.listed end) m.first
+pub record IsLater (g : Ground) (key : Key) (m : Mark) (tag n end : ℕ) (finds : List (Option (List (Option Structure)))) (first : Option ℕ) (later : List (Option (List (Option Structure)))) (last : Option ℕ) : Type 0 where
+  pub early : AreAlike (map (found_after_all g.tailoring (among g.history key m.opened tag n end)) m.finds.items) finds
+  pub change : first ≡ first_after_all (among g.history key m.opened tag n end) m.first
   pub all : (fs : List (Option (List (Option Structure)))) → AreAlike fs finds → AreAlike (fs ++ map (found_by g.tailoring g.history key tag m.past end) (told_between g.history key m.tag tag)) later
   pub latest : last ≡ first_by g.history key tag m.past end (told_between g.history key m.tag tag) first
 
-pub later-starts : (g : Ground) (key : Key) (from tag : ℕ) → IsGrounded g → from ≤ tag
+later-starts : (g : Ground) (key : Key) (from tag : ℕ) → IsGrounded g → from ≤ tag
     → starts_below g.tailoring g.history key tag ≡ starts_below g.tailoring g.history key from ++ told_between g.history key from tag
 later-starts g key from tag grounded le =
     ap (λ ss. boot_starts g.tailoring g.history key ++ ss) (told-split g.history key from tag grounded.tags le)
     ∙ sym (append_assoc (boot_starts g.tailoring g.history key) (told_below g.history key from) (told_between g.history key from tag))
 
-later-finds : SameIsFound → (g : Ground) (key : Key) (m : Mark) (tag end : ℕ) (finds : List (Option (List (Option Structure)))) (first : Option ℕ) (later : List (Option (List (Option Structure)))) (last : Option ℕ)
-    → IsGrounded g → IsMark g key m → IsFirm g.history m tag → AreLate g.history end tag → IsLater g key m tag end finds first later last
-    → AreAlike (map (found_at g.tailoring g.history key tag) (starts_below g.tailoring g.history key tag)) later
-later-finds law g key m tag end finds first later last grounded mark firm late is =
-    subst (λ fs. AreAlike fs later) (sym all) (is.all (map (found_at t h key tag) before) early)
+-- the states that a mark holds open before it
+opened-member : (g : Ground) (key : Key) (m : Mark) → IsMark g key m → (s : Start) → IsIn s (starts_below g.tailoring g.history key m.tag) → s.tag ≤ m.opened
+opened-member g key m mark s i =
+    below-member g.tailoring g.history key m.opened s (subst (λ ss. IsIn s (boot_starts g.tailoring g.history key ++ ss)) mark.told i)
+
+later-finds : SameIsFound → (g : Ground) (key : Key) (m : Mark) (tag n end : ℕ) (finds : List (Option (List (Option Structure)))) (first : Option ℕ) (later : List (Option (List (Option Structure)))) (last : Option ℕ)
+    → IsGrounded g → IsMark g key m → GoesOn g.history m n tag → n ≤ end → IsLater g key m tag n end finds first later last
+    → AreAlike (map (found_at g.tailoring (λ s. among g.history key s tag 0 end)) (starts_below g.tailoring g.history key tag)) later
+later-finds law g key m tag n end finds first later last grounded mark goes order is =
+    subst (λ fs. AreAlike fs later) (sym all) (is.all (map (found_at t now) before) early)
   where
     t : TailoringParts
     t = g.tailoring
@@ -183,34 +202,46 @@ later-finds law g key m tag end finds first later last grounded mark firm late i
     before = starts_below t h key m.tag
 
     tail : List Candidate
-    tail = among h key m.tag tag m.listed end
+    tail = among h key m.opened tag n end
 
-    early : AreAlike (map (found_at t h key tag) before) finds
+    now : ℕ → List Candidate
+    now s = among h key s tag 0 end
+
+    was : ℕ → List Candidate
+    was = passed h key m.tag m.past n
+
+    opened : m.opened ≤ tag
+    opened = let a = mark.opened in let b = goes.holds.later in omega (arith, a, b)
+
+    reach : m.past ≤ end
+    reach = let a = goes.holds.order in omega (arith, a, order)
+
+    early : AreAlike (map (found_at t now) before) finds
     early =
         subst (λ fs. AreAlike fs finds)
-        (map-twice (found_after_all t tail) (found_at t h key m.tag) before
-        ∙ map-same (λ s. found_after_all t tail (found_at t h key m.tag s)) (found_at t h key tag) before
+        (map-twice (found_after_all t tail) (found_at t was) before
+        ∙ map-same (λ s. found_after_all t tail (found_at t was s)) (found_at t now) before
         (λ s i.
-        sym (ap (λ cs. found_after_all t cs (Some (s.state ∷ []))) (candidates-split h key m s.tag tag end firm (below-member t h key m.tag s i) late)
-        ∙ after_all-append t (candidates h key s.tag m.tag) tail (Some (s.state ∷ [])))))
-        (alike-trans (map (found_after_all t tail) (map (found_at t h key m.tag) before)) (map (found_after_all t tail) m.finds.items) finds
-        (alike-after law t tail (map (found_at t h key m.tag) before) m.finds.items mark.finds) is.early)
+        sym (ap (λ cs. found_after_all t cs (first_found s)) (passed-split h key m s.tag tag n end goes opened (opened-member g key m mark s i) order)
+        ∙ after_all-append t (was s.tag) tail (first_found s))))
+        (alike-trans (map (found_after_all t tail) (map (found_at t was) before)) (map (found_after_all t tail) m.finds.items) finds
+        (alike-after law t tail (map (found_at t was) before) m.finds.items (mark.mark.found n goes.from goes.to).finds) is.early)
 
-    all : map (found_at t h key tag) (starts_below t h key tag) ≡ map (found_at t h key tag) before ++ map (found_by t h key tag m.past end) (told_between h key m.tag tag)
+    all : map (found_at t now) (starts_below t h key tag) ≡ map (found_at t now) before ++ map (found_by t h key tag m.past end) (told_between h key m.tag tag)
     all =
-        ap (λ ss. map (found_at t h key tag) ss) (later-starts g key m.tag tag grounded firm.later)
-        ∙ (map-append (found_at t h key tag) before (told_between h key m.tag tag)
-        ∙ ap (λ fs. map (found_at t h key tag) before ++ fs)
-        (map-same (found_at t h key tag) (found_by t h key tag m.past end) (told_between h key m.tag tag)
-        (λ s i. ap (λ cs. found_after_all t cs (Some (s.state ∷ []))) (candidates-behind h key m s.tag tag end firm (between-member h key m.tag tag s i) late))))
+        ap (λ ss. map (found_at t now) ss) (later-starts g key m.tag tag grounded goes.holds.later)
+        ∙ (map-append (found_at t now) before (told_between h key m.tag tag)
+        ∙ ap (λ fs. map (found_at t now) before ++ fs)
+        (map-same (found_at t now) (found_by t h key tag m.past end) (told_between h key m.tag tag)
+        (λ s i. ap (λ cs. found_after_all t cs (first_found s)) (passed-behind h key m s.tag tag end goes.holds.passed (between-member h key m.tag tag s i) reach))))
 
-later-first : (g : Ground) (key : Key) (m : Mark) (tag end : ℕ) (finds : List (Option (List (Option Structure)))) (first : Option ℕ) (later : List (Option (List (Option Structure)))) (last : Option ℕ)
-    → IsGrounded g → IsMark g key m → IsFirm g.history m tag → AreLate g.history end tag → IsLater g key m tag end finds first later last
-    → 1 ≤ length (starts_below g.tailoring g.history key tag) → last ≡ first_at g.history key tag (starts_below g.tailoring g.history key tag)
-later-first g key m tag end finds first later last grounded mark firm late is l =
+later-first : (g : Ground) (key : Key) (m : Mark) (tag n end : ℕ) (finds : List (Option (List (Option Structure)))) (first : Option ℕ) (later : List (Option (List (Option Structure)))) (last : Option ℕ)
+    → IsGrounded g → IsMark g key m → GoesOn g.history m n tag → n ≤ end → IsLater g key m tag n end finds first later last
+    → 1 ≤ length (starts_below g.tailoring g.history key tag) → last ≡ first_at (λ s. among g.history key s tag 0 end) (starts_below g.tailoring g.history key tag)
+later-first g key m tag n end finds first later last grounded mark goes order is l =
     is.latest
     ∙ (go (told_between h key m.tag tag) (between-member h key m.tag tag) (subst (λ (ss : List Start). 1 ≤ length ss) starts l)
-    ∙ ap (λ ss. first_at h key tag ss) (sym starts))
+    ∙ ap (λ ss. first_at now ss) (sym starts))
   where
     h : History
     h = g.history
@@ -218,27 +249,73 @@ later-first g key m tag end finds first later last grounded mark firm late is l 
     before : List Start
     before = starts_below g.tailoring h key m.tag
 
-    starts : starts_below g.tailoring h key tag ≡ before ++ told_between h key m.tag tag
-    starts = later-starts g key m.tag tag grounded firm.later
+    now : ℕ → List Candidate
+    now s = among h key s tag 0 end
 
-    go : (ss : List Start) → ((s : Start) → IsIn s ss → m.tag ≤ s.tag) → 1 ≤ length (before ++ ss) → first_by h key tag m.past end ss first ≡ first_at h key tag (before ++ ss)
+    starts : starts_below g.tailoring h key tag ≡ before ++ told_between h key m.tag tag
+    starts = later-starts g key m.tag tag grounded goes.holds.later
+
+    go : (ss : List Start) → ((s : Start) → IsIn s ss → m.tag ≤ s.tag) → 1 ≤ length (before ++ ss) → first_by h key tag m.past end ss first ≡ first_at now (before ++ ss)
     go [] high l =
         let some : 1 ≤ length before = subst (λ (ss : List Start). 1 ≤ length ss) (append-nil before) l in
+        let opened : m.opened ≤ tag = (let a = mark.opened in let b = goes.holds.later in omega (arith, a, b)) in
         is.change
-        ∙ (ap (λ f. first_after_all (among h key m.tag tag m.listed end) f) (mark.first some)
-        ∙ (sym (first-on h key m tag end firm late before (λ s i. below-member g.tailoring h key m.tag s i) some) ∙ ap (λ ss. first_at h key tag ss) (sym (append-nil before))))
-    go (s ∷ ss) high l = first-new h key m tag end firm late s ss first high ∙ sym (first-behind h key tag before s ss)
+        ∙ (ap (λ f. first_after_all (among h key m.opened tag n end) f) ((mark.mark.found n goes.from goes.to).first some)
+        ∙ (sym (first-on h key m tag n end goes opened order before (opened-member g key m mark) some) ∙ ap (λ ss. first_at now ss) (sym (append-nil before))))
+    go (s ∷ ss) high l =
+        let reach : m.past ≤ end = (let a = goes.holds.order in omega (arith, a, order)) in
+        first-new h key m tag n end goes reach s ss first high ∙ sym (first-behind now before s ss)
 
--- the basis by what is found
-basis-of : OpeningsAreFound → FindsGiveBases → (g : Ground) (key : Key) (tag : ℕ) (finds : List (Option (List (Option Structure)))) (first : Option ℕ) (basis : Basis) → IsGrounded g
-    → AreAlike (map (found_at g.tailoring g.history key tag) (starts_below g.tailoring g.history key tag)) finds
-    → (1 ≤ length (starts_below g.tailoring g.history key tag) → first ≡ first_at g.history key tag (starts_below g.tailoring g.history key tag))
-    → IsBasisOf finds (unwrap_or first 0) basis → IsBasis g.tailoring (openings g.tailoring g.history key tag) basis
-basis-of found give g key tag finds first basis grounded alike named is =
-    let covers = alike-covered (map (found_at t h key tag) ss) finds alike in
-    subst (λ os. IsBasis t os basis) (sym (starts-opened t h key tag))
-    (give t (map (opening_of h key tag) ss) (map (found_at t h key tag) ss) basis (all-found found t h key tag ss)
-    (basis-covered finds (map (found_at t h key tag) ss) (unwrap_or first 0) (named_request (map (opening_of h key tag) ss)) basis covers.1 covers.0 (λ l. name ss refl named (starts-order t h key tag grounded.tags) l) is))
+-- nothing was told from a tag on where it is above all that was told
+pub untold-same : (g : Ground) (key : Key) (from tag : ℕ) → IsGrounded g → from ≤ tag → (newest_told g.history.kept < from) ⊎ (from ≡ tag) → told_below g.history key tag ≡ told_below g.history key from
+untold-same g key from tag grounded le (inl lt) =
+    told-split g.history key from tag grounded.tags le ∙ (ap (λ ss. told_below g.history key from ++ ss) (told-after key from tag g.history.kept lt) ∙ append-nil (told_below g.history key from))
+untold-same g key from tag grounded le (inr e) = ap (λ n. told_below g.history key n) (sym e)
+
+-- from which tag on no state opens, where states opened behind a mark, or none did
+pub record IsOpened (g : Ground) (key : Key) (m now : Mark) (starts : List Start) : Type 0 where
+  pub none : starts ≡ [] → now.opened ≡ m.opened
+  pub some : (starts ≡ [] → ⊥) → (now.opened ≤ now.tag) × ((newest_told g.history.kept < now.opened) ⊎ (now.opened ≡ now.tag))
+
+opened-told : (g : Ground) (key : Key) (m now : Mark) (tag : ℕ) → IsGrounded g → IsMark g key m → m.tag ≤ now.tag → now.tag ≤ tag → told_below g.history key tag ≡ told_below g.history key now.tag
+    → IsOpened g key m now (told_between g.history key m.tag tag) → (now.opened ≤ now.tag) × (told_below g.history key now.tag ≡ told_below g.history key now.opened)
+opened-told g key m now tag grounded mark from to untold is = go (told_between g.history key m.tag tag) refl
+  where
+    h : History
+    h = g.history
+
+    go : (ss : List Start) → told_between h key m.tag tag ≡ ss → (now.opened ≤ now.tag) × (told_below h key now.tag ≡ told_below h key now.opened)
+    go [] e =
+        let same = is.none e in
+        let below = mark.opened in
+        (
+          omega (arith, same, below, from),
+          sym untold
+              ∙ (told-split h key m.tag tag grounded.tags (omega (arith, from, to))
+              ∙ (ap (λ ss. told_below h key m.tag ++ ss) e ∙ (append-nil (told_below h key m.tag) ∙ (mark.told ∙ ap (λ n. told_below h key n) (sym same))))),
+        )
+    go (s ∷ ss) e =
+        let some = is.some (λ p. let no : s ∷ ss ≡ [] → ⊥ = λ q. cc in no (sym e ∙ p)) in
+        (some.0, untold-same g key now.opened now.tag grounded some.0 some.1)
+
+-- The mark at the later tag.
+pub later-mark : SameIsFound → (g : Ground) (key : Key) (m now : Mark) (tag n end : ℕ) (finds : List (Option (List (Option Structure)))) (first : Option ℕ)
+    → IsGrounded g → IsMark g key m → GoesOn g.history m n tag → n ≤ end → IsLater g key m tag n end finds first now.finds.items now.first → IsFormedMark g.tailoring now
+    → now.listed ≡ end → now.calm ≡ end → m.tag ≤ now.tag → now.tag ≤ tag → (newest_told g.history.kept < now.tag) ⊎ (now.tag ≡ tag)
+    → IsOpened g key m now (told_between g.history key m.tag tag) → HoldsFor g.history now end tag → IsMark g key now
+later-mark same g key m now tag n end finds first grounded mark goes order is formed listed calm from to untold opened holds =
+    record {
+      mark =
+          record {
+            behind = let o = holds.order in omega (arith, o, listed);
+            order = omega (arith, listed, calm);
+            within = let w = holds.within in omega (arith, w, calm);
+            formed = formed;
+            found = λ k a b. subst (λ j. AreFound t (passed h key now.tag now.past j) (starts_below t h key now.tag) now.finds.items now.first) (omega (arith, a, b, listed, calm)) found;
+          };
+      opened = both.0;
+      told = both.1;
+    }
   where
     t : TailoringParts
     t = g.tailoring
@@ -246,30 +323,80 @@ basis-of found give g key tag finds first basis grounded alike named is =
     h : History
     h = g.history
 
+    same_told : told_below h key tag ≡ told_below h key now.tag
+    same_told = untold-same g key now.tag tag grounded to untold
+
+    both : (now.opened ≤ now.tag) × (told_below h key now.tag ≡ told_below h key now.opened)
+    both = opened-told g key m now tag grounded mark from to same_told opened
+
+    at_tag : AreFound t (λ s. among h key s tag 0 end) (starts_below t h key tag) now.finds.items now.first
+    at_tag =
+        record {
+          finds = later-finds same g key m tag n end finds first now.finds.items now.first grounded mark goes order is;
+          first = later-first g key m tag n end finds first now.finds.items now.first grounded mark goes order is;
+        }
+
+    found : AreFound t (passed h key now.tag now.past end) (starts_below t h key now.tag) now.finds.items now.first
+    found =
+        subst (λ ss. AreFound t (passed h key now.tag now.past end) (boot_starts t h key ++ ss) now.finds.items now.first) same_told
+        (found-same t (λ s. among h key s tag 0 end) (passed h key now.tag now.past end) (starts_below t h key tag) now.finds.items now.first
+        (λ s i. passed-same h key now s.tag tag end holds (below-member t h key tag s i)) at_tag)
+
+-- ---- the basis of verdicts
+
+-- the basis by what is found
+basis-of : OpeningsAreFound → FindsGiveBases → (g : Ground) (key : Key) (tag : ℕ) (finds : List (Option (List (Option Structure)))) (first : Option ℕ) (basis : Basis) → IsGrounded g
+    → AreFound g.tailoring (λ s. candidates g.history key s tag) (starts_below g.tailoring g.history key tag) finds first
+    → IsBasisOf finds (unwrap_or first 0) basis → IsBasis g.tailoring (openings g.tailoring g.history key tag) basis
+basis-of found give g key tag finds first basis grounded are is =
+    let covers = alike-covered (map (found_at t now) ss) finds are.finds in
+    subst (λ os. IsBasis t os basis) (sym (starts-opened t h key tag))
+    (give t (map (opening_of h key tag) ss) (map (found_at t now) ss) basis (all-found found t h key tag ss)
+    (basis-covered finds (map (found_at t now) ss) (unwrap_or first 0) (named_request (map (opening_of h key tag) ss)) basis covers.1 covers.0 (λ l. name ss refl are.first (starts-order t h key tag grounded.tags) l) is))
+  where
+    t : TailoringParts
+    t = g.tailoring
+
+    h : History
+    h = g.history
+
+    now : ℕ → List Candidate
+    now s = candidates h key s tag
+
     ss : List Start
     ss = starts_below t h key tag
 
-    name : (xs : List Start) → ss ≡ xs → (1 ≤ length xs → first ≡ first_at h key tag xs) → AreInOrder xs → 1 ≤ length (map (found_at t h key tag) xs)
+    name : (xs : List Start) → ss ≡ xs → (1 ≤ length xs → first ≡ first_at now xs) → AreInOrder xs → 1 ≤ length (map (found_at t now) xs)
         → named_request (map (opening_of h key tag) xs) ≡ unwrap_or first 0
     name [] e n order l = absurd (omega (arith, l))
-    name (s ∷ xs) e n order l = named-last found t h key tag s xs order ∙ ap (λ o. unwrap_or o 0) (sym (n (omega arith) ∙ first-last h key tag s xs))
+    name (s ∷ xs) e n order l = named-last found t h key tag s xs order ∙ ap (λ o. unwrap_or o 0) (sym (n (omega arith) ∙ first-last now s xs))
 
--- The mark at the later tag.
-pub later-mark : OpeningsAreFound → SameIsFound → FindsGiveBases → (g : Ground) (key : Key) (m now : Mark) (end : ℕ) (finds : List (Option (List (Option Structure)))) (first : Option ℕ)
-    → IsGrounded g → IsMark g key m → IsFirm g.history m now.tag → AreLate g.history end now.tag → IsLater g key m now.tag end finds first now.finds.items now.first
-    → All (IsFormedFound g.tailoring) now.finds.items → IsBasisOf now.finds.items (unwrap_or now.first 0) now.basis → IsFormedBasis g.tailoring now.basis → IsMark g key now
-later-mark found same give g key m now end finds first grounded mark firm late is formed basis valid =
-    let all = later-finds same g key m now.tag end finds first now.finds.items now.first grounded mark firm late is in
-    let named = later-first g key m now.tag end finds first now.finds.items now.first grounded mark firm late is in
-    record { finds = all; formed = formed; first = named; basis = basis-of found give g key now.tag now.finds.items now.first now.basis grounded all named basis; valid = valid }
+-- the basis that a mark holds is that of reports to which it is near
+pub near-basis : OpeningsAreFound → FindsGiveBases → (g : Ground) (key : Key) (m : Mark) (listed tag : ℕ) → IsGrounded g → IsMark g key m → IsNear g.history key m listed tag → listed ≤ m.calm
+    → AreListedBelow g.history tag listed → IsBasis g.tailoring (openings g.tailoring g.history key tag) m.basis
+near-basis found give g key m listed tag grounded mark near reaches are =
+    basis-of found give g key tag m.finds.items m.first m.basis grounded now mark.mark.formed.basis
+  where
+    t : TailoringParts
+    t = g.tailoring
+
+    h : History
+    h = g.history
+
+    now : AreFound t (λ s. candidates h key s tag) (starts_below t h key tag) m.finds.items m.first
+    now =
+        subst (λ ss. AreFound t (λ s. candidates h key s tag) (boot_starts t h key ++ ss) m.finds.items m.first) (sym near.untold)
+        (found-same t (passed h key m.tag m.past listed) (λ s. candidates h key s tag) (starts_below t h key m.tag) m.finds.items m.first
+        (λ s i.
+        let at = below-member t h key m.tag s i in
+        let later = near.holds.later in
+        sym (candidates-front h key s.tag tag listed are.late ∙ passed-same h key m s.tag tag listed near.holds (omega (arith, at, later))))
+        (mark.mark.found listed near.from reaches))
 
 -- ---- the mark at tag 0
 
 none-told : (h : History) (key : Key) → told_below h key 0 ≡ []
 none-told h key = filter_map-none (told_start_below key 0) h.kept (λ k i. ap (λ (b : Bool). if b then told_start key k else None) (le-ltb (tag_of k) 0 (omega arith)))
-
-none-before : (h : History) (key : Key) (start : ℕ) → candidates h key start 0 ≡ []
-none-before h key start = filter_map-none (candidate h key start 0) (enumerate_from 0 h.requests) (λ x i. late-none h key start 0 x.0 x.1 (omega arith))
 
 first-starts : (t : TailoringParts) (h : History) (key : Key) → starts_below t h key 0 ≡ boot_starts t h key
 first-starts t h key = ap (λ ss. boot_starts t h key ++ ss) (none-told h key) ∙ append-nil (boot_starts t h key)
@@ -285,18 +412,30 @@ found-once t fs all = All-weaker (IsFormedFound t) (λ (f : Option (List (Option
     once None h = tt
     once (Some states) h = h.1
 
-pub first-mark : OpeningsAreFound → FindsGiveBases → (g : Ground) (key : Key) (boot : Option Start) (m : Mark) → IsGrounded g → m.tag ≡ 0 → m.first ≡ None
+pub first-mark : (g : Ground) (key : Key) (boot : Option Start) (m : Mark) → m.tag ≡ 0 → m.opened ≡ 0 → m.past ≡ 0 → m.listed ≡ 0 → m.calm ≡ 0 → m.first ≡ None
     → option_to_list boot ≡ boot_starts g.tailoring g.history key → IfSome boot (IsFormedStart g.tailoring) → m.finds.items ≡ map first_found (option_to_list boot)
     → IsBasisOf m.finds.items (unwrap_or m.first 0) m.basis → IsFormedBasis g.tailoring m.basis → IsMark g key m
-first-mark found give g key boot m grounded zero_ none starts formed finds_are basis valid =
+first-mark g key boot m at opened past listed calm none starts formed finds_are basis valid =
     record {
-      finds = subst (λ n. AreAlike (map (found_at t h key n) (starts_below t h key n)) m.finds.items) (sym zero_) alike;
-      formed = subst (λ (fs : List (Option (List (Option Structure)))). All (IsFormedFound t) fs) (sym finds_are) (first-formed t boot formed);
-      first = subst (λ n. 1 ≤ length (starts_below t h key n) → m.first ≡ first_at h key n (starts_below t h key n)) (sym zero_) named;
-      basis =
-          subst (λ n. IsBasis t (openings t h key n) m.basis) (sym zero_)
-          (basis-of found give g key 0 m.finds.items m.first m.basis grounded alike named basis);
-      valid = valid;
+      mark =
+          record {
+            behind = omega (arith, past, listed);
+            order = omega (arith, listed, calm);
+            within = omega (arith, calm);
+            formed =
+                record {
+                  finds = subst (λ (fs : List (Option (List (Option Structure)))). All (IsFormedFound t) fs) (sym finds_are) (first-formed t boot formed);
+                  basis = basis;
+                  valid = valid;
+                };
+            found = λ n from to.
+                let zero_ : 0 ≡ n = omega (arith, to, calm) in
+                subst (λ j. AreFound t (passed h key m.tag m.past j) (starts_below t h key m.tag) m.finds.items m.first) zero_
+                (subst (λ j. AreFound t (passed h key m.tag j 0) (starts_below t h key m.tag) m.finds.items m.first) (sym past)
+                (subst (λ j. AreFound t (passed h key j 0 0) (starts_below t h key j) m.finds.items m.first) (sym at) found));
+          };
+      opened = omega (arith, opened);
+      told = ap (λ n. told_below h key n) (at ∙ sym opened);
     }
   where
     t : TailoringParts
@@ -305,18 +444,15 @@ first-mark found give g key boot m grounded zero_ none starts formed finds_are b
     h : History
     h = g.history
 
-    all : map (found_at t h key 0) (starts_below t h key 0) ≡ m.finds.items
+    all : map (found_at t (passed h key 0 0 0)) (starts_below t h key 0) ≡ m.finds.items
     all =
-        ap (λ ss. map (found_at t h key 0) ss) (first-starts t h key ∙ sym starts)
-        ∙ (map-same (found_at t h key 0) first_found (option_to_list boot) (λ s i. ap (λ cs. found_after_all t cs (Some (s.state ∷ []))) (none-before h key s.tag)) ∙ sym finds_are)
+        ap (λ ss. map (found_at t (passed h key 0 0 0)) ss) (first-starts t h key ∙ sym starts)
+        ∙ (map-same (found_at t (passed h key 0 0 0)) first_found (option_to_list boot) (λ s i. refl) ∙ sym finds_are)
 
-    alike : AreAlike (map (found_at t h key 0) (starts_below t h key 0)) m.finds.items
-    alike = subst (λ fs. AreAlike fs m.finds.items) (sym all) (alike-refl m.finds.items)
-
-    named : 1 ≤ length (starts_below t h key 0) → m.first ≡ first_at h key 0 (starts_below t h key 0)
-    named l = none ∙ go (starts_below t h key 0)
+    found : AreFound t (passed h key 0 0 0) (starts_below t h key 0) m.finds.items m.first
+    found = record { finds = subst (λ fs. AreAlike fs m.finds.items) (sym all) (alike-refl m.finds.items); first = λ l. none ∙ go (starts_below t h key 0) }
       where
-        go : (ss : List Start) → None ≡ first_at h key 0 ss
+        go : (ss : List Start) → None ≡ first_at (passed h key 0 0 0) ss
         go [] = refl
-        go (s ∷ []) = ap (λ cs. first_after_all cs None) (sym (none-before h key s.tag))
+        go (s ∷ []) = refl
         go (s ∷ x ∷ ss) = go (x ∷ ss)

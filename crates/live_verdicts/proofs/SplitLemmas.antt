@@ -1,10 +1,9 @@
--- Verdicts go on from a mark: the requests and states before its tag, and those behind it.
-use Rattle.std.proofs.Common.{arith, ◌≡◌, ℕ, zero, suc, ◌+◌, ◌-◌, ◌<◌, ◌≤◌, refl, sym, ◌∙◌, ap, subst, List, [], ◌∷◌, ◌++◌, take, drop, Bool, true, false, length, inl, inr, ◌⊎◌, Option, Some, None, append-nil, append_assoc}
-use Rattle.std.specs.Prelude.{filter_map, nat_lt, nat_le, not, ◌&&◌, ◌||◌, ◌==◌, IfSome, IsSomeAnd, option_map, option_and_then, if◌then◌else◌}
+-- The requests before a mark's tag, and those behind it.
+use Rattle.std.proofs.Common.{arith, ◌≡◌, ℕ, zero, suc, ◌+◌, ◌<◌, ◌≤◌, refl, sym, ◌∙◌, ap, subst, List, [], ◌∷◌, ◌++◌, take, drop, Bool, true, false, length, inl, inr, ◌⊎◌, Option, Some, None, append-nil}
+use Rattle.std.specs.Prelude.{filter_map, nat_lt, nat_le, not, ◌&&◌, ◌||◌, IfSome, IsSomeAnd, option_map, option_and_then, if◌then◌else◌}
 use Rattle.std.specs.List.{enumerate_from}
-use Rattle.std.proofs.lemmas.Bool.{le-leb, leb-true, leb-false, lt-leb, ltb-true, both_ways, and_parts, eqb-true}
-use Rattle.std.proofs.lemmas.Bool.Decides.{nat_tests}
-use Rattle.std.proofs.lemmas.List.{take-append-drop}
+use Rattle.std.proofs.lemmas.Bool.{le-leb, leb-true, leb-false, lt-leb, both_ways}
+use Rattle.std.proofs.lemmas.List.{take-append-drop, drop_all}
 use Rattle.std.proofs.lemmas.List.Elements.{filter_map-append}
 use Rattle.hk_base.specs.declared.types.Key.{Key}
 use Rattle.hk_base.proofs.Membership.{IsIn}
@@ -16,140 +15,38 @@ use Rattle.ground_history.specs.Ground.{Ground, IsGrounded}
 use Rattle.ground_history.specs.Rising.{BoundsRise}
 use Rattle.ground_history.proofs.SayLemmas.{nothing}
 use Rattle.definition_intervals.specs.Openings.{Candidate, is_at_most, is_possible, is_certain, candidate, candidates}
-use Rattle.live_verdicts.specs.Marks.{is_past, is_listed, is_firm, among}
+use Rattle.live_verdicts.specs.Changes.{unsure, unsures}
+use Rattle.live_verdicts.specs.Marks.{among, passed, HavePassed, HaveBegun, ArePending, AreLate, HoldsFor, GoesOn}
 use Rattle.live_verdicts.specs.declared.mark.Mark.{Mark}
 use Rattle.live_verdicts.proofs.SameLemmas.{filter_map-same, filter_map-none, enumerate-within}
 
--- ---- what a firm mark says of each request
+-- ---- upper bounds, and tags
 
-either : (k m : ℕ) → (k ≤ m) ⊎ (m < k)
-either k m = go (nat_le k m) refl
-  where
-    go : (b : Bool) → nat_le k m ≡ b → (k ≤ m) ⊎ (m < k)
-    go true e = inl (leb-true k m e)
-    go false e = inr (leb-false k m e)
+pub not_true : (b : Bool) → not b ≡ true → b ≡ false
+not_true true e = absurd (both_ways false refl e)
+not_true false e = refl
 
--- what is known of requests at a mark's tag, for reports with a later tag
-pub record IsFirm (h : History) (m : Mark) (tag : ℕ) : Type 0 where
-  pub later : m.tag ≤ tag
-  pub order : m.past ≤ m.listed
-  pub within : m.listed ≤ length h.requests
-  pub ended : (k : ℕ) → k < m.past → is_at_most (high h k) m.tag ≡ true
-  pub pending : (k : ℕ) → m.past ≤ k → k < m.listed → is_at_most (high h k) tag ≡ false
-  pub ahead : (k : ℕ) → m.listed ≤ k → k < length h.requests → is_at_most (high h k) m.tag ≡ false
-  pub lows : (k : ℕ) → k < m.listed → low h k < m.tag
-  pub later_lows : (k : ℕ) → m.listed ≤ k → k < length h.requests → m.tag ≤ low h k
-
-lower-most : (a b : Option ℕ) (tag : ℕ) → IfSome b (λ top. IsSomeAnd a (λ t. t ≤ top)) → is_at_most b tag ≡ true → is_at_most a tag ≡ true
+pub lower-most : (a b : Option ℕ) (tag : ℕ) → IfSome b (λ top. IsSomeAnd a (λ t. t ≤ top)) → is_at_most b tag ≡ true → is_at_most a tag ≡ true
 lower-most a None tag rise s = absurd (both_ways false refl s)
 lower-most None (Some top) tag rise s = absurd rise
 lower-most (Some t) (Some top) tag rise s = let le = leb-true top tag s in le-leb t tag (omega (arith, rise, le))
 
-higher-most : (a b : Option ℕ) (tag : ℕ) → IfSome b (λ top. IsSomeAnd a (λ t. t ≤ top)) → is_at_most a tag ≡ false → is_at_most b tag ≡ false
+pub higher-most : (a b : Option ℕ) (tag : ℕ) → IfSome b (λ top. IsSomeAnd a (λ t. t ≤ top)) → is_at_most a tag ≡ false → is_at_most b tag ≡ false
 higher-most a b tag rise s = go (is_at_most b tag) refl
   where
     go : (x : Bool) → is_at_most b tag ≡ x → x ≡ false
     go false e = refl
     go true e = absurd (both_ways (is_at_most a tag) s (lower-most a b tag rise e))
 
-wider-most : (a : Option ℕ) (early tag : ℕ) → early ≤ tag → is_at_most a tag ≡ false → is_at_most a early ≡ false
+pub wider-most : (a : Option ℕ) (early tag : ℕ) → early ≤ tag → is_at_most a tag ≡ false → is_at_most a early ≡ false
 wider-most None early tag le e = refl
 wider-most (Some t) early tag le e = let lt = leb-false t tag e in lt-leb t early (omega (arith, le, lt))
 
-raised-most : (a : Option ℕ) (early tag : ℕ) → early ≤ tag → is_at_most a early ≡ true → is_at_most a tag ≡ true
+pub raised-most : (a : Option ℕ) (early tag : ℕ) → early ≤ tag → is_at_most a early ≡ true → is_at_most a tag ≡ true
 raised-most None early tag le e = e
 raised-most (Some t) early tag le e = let low_ = leb-true t early e in le-leb t tag (omega (arith, le, low_))
 
-or_parts : (a b : Bool) → (a || b) ≡ true → (a ≡ true) ⊎ (b ≡ true)
-or_parts true b e = inl refl
-or_parts false b e = inr e
-
-not_true : (b : Bool) → not b ≡ true → b ≡ false
-not_true true e = absurd (both_ways false refl e)
-not_true false e = refl
-
-pub firm-from : BoundsRise → (g : Ground) (m : Mark) (tag : ℕ) → IsGrounded g → is_firm g.history m tag ≡ true → IsFirm g.history m tag
-firm-from law g m tag grounded e =
-    record {
-      later = later;
-      order = order;
-      within = within;
-      ended = λ k l. ended k l (or_parts _ _ pasts.0);
-      pending = λ k le l. pending k le l (or_parts _ _ pasts.1);
-      ahead = λ k le l. ahead k le l (or_parts _ _ pasts.1);
-      lows = λ k l. lows k l (or_parts _ _ lists.0);
-      later_lows = λ k le l. later_lows k le l (or_parts _ _ lists.1);
-    }
-  where
-    h : History
-    h = g.history
-
-    parts : (nat_le m.tag tag ≡ true) × ((nat_le m.past m.listed && (nat_le m.listed (length h.requests) && (is_listed h m && is_past h m tag))) ≡ true)
-    parts = and_parts _ _ e
-
-    orders : (nat_le m.past m.listed ≡ true) × ((nat_le m.listed (length h.requests) && (is_listed h m && is_past h m tag)) ≡ true)
-    orders = and_parts _ _ parts.1
-
-    withins : (nat_le m.listed (length h.requests) ≡ true) × ((is_listed h m && is_past h m tag) ≡ true)
-    withins = and_parts _ _ orders.1
-
-    both : (is_listed h m ≡ true) × (is_past h m tag ≡ true)
-    both = and_parts _ _ withins.1
-
-    lists : ((m.listed == 0 || nat_lt (low h (m.listed - 1)) m.tag) ≡ true) × ((m.listed == length h.requests || nat_le m.tag (low h m.listed)) ≡ true)
-    lists = and_parts _ _ both.0
-
-    pasts : ((m.past == 0 || is_at_most (high h (m.past - 1)) m.tag) ≡ true)
-        × ((m.past == length h.requests || not (is_at_most (high h m.past) (if m.past == m.listed then m.tag else tag))) ≡ true)
-    pasts = and_parts _ _ both.1
-
-    later : m.tag ≤ tag
-    later = leb-true m.tag tag parts.0
-
-    order : m.past ≤ m.listed
-    order = leb-true m.past m.listed orders.0
-
-    within : m.listed ≤ length h.requests
-    within = leb-true m.listed (length h.requests) withins.0
-
-    ended : (k : ℕ) → k < m.past → (m.past == 0 ≡ true) ⊎ (is_at_most (high h (m.past - 1)) m.tag ≡ true) → is_at_most (high h k) m.tag ≡ true
-    ended k l (inl z) = let zero_ = eqb-true m.past 0 z in absurd (omega (arith, l, zero_))
-    ended k l (inr s) = lower-most (high h k) (high h (m.past - 1)) m.tag (law g k (m.past - 1) grounded (omega (arith, l)) (omega (arith, l, order, within))).high s
-
-    pending : (k : ℕ) → m.past ≤ k → k < m.listed
-        → (m.past == length h.requests ≡ true) ⊎ (not (is_at_most (high h m.past) (if m.past == m.listed then m.tag else tag)) ≡ true) → is_at_most (high h k) tag ≡ false
-    pending k le l (inl z) = let all = eqb-true m.past (length h.requests) z in absurd (omega (arith, le, l, all, within))
-    pending k le l (inr s) =
-        let fewer : (m.past == m.listed) ≡ false = grind (arith, nat_tests, le, l) in
-        higher-most (high h m.past) (high h k) tag (law g m.past k grounded le (omega (arith, l, within))).high
-        (subst (λ (b : Bool). is_at_most (high h m.past) (if b then m.tag else tag) ≡ false) fewer (not_true _ s))
-
-    ahead : (k : ℕ) → m.listed ≤ k → k < length h.requests
-        → (m.past == length h.requests ≡ true) ⊎ (not (is_at_most (high h m.past) (if m.past == m.listed then m.tag else tag)) ≡ true) → is_at_most (high h k) m.tag ≡ false
-    ahead k le l (inl z) = let all = eqb-true m.past (length h.requests) z in absurd (omega (arith, le, l, all, order))
-    ahead k le l (inr s) =
-        higher-most (high h m.past) (high h k) m.tag (law g m.past k grounded (omega (arith, order, le)) l).high
-        (here (m.past == m.listed) (not_true _ s))
-      where
-        here : (b : Bool) → is_at_most (high h m.past) (if b then m.tag else tag) ≡ false → is_at_most (high h m.past) m.tag ≡ false
-        here true p = p
-        here false p = wider-most (high h m.past) m.tag tag later p
-
-    lows : (k : ℕ) → k < m.listed → (m.listed == 0 ≡ true) ⊎ (nat_lt (low h (m.listed - 1)) m.tag ≡ true) → low h k < m.tag
-    lows k l (inl z) = let zero_ = eqb-true m.listed 0 z in absurd (omega (arith, l, zero_))
-    lows k l (inr s) =
-        let last = ltb-true (low h (m.listed - 1)) m.tag s in
-        let rise = (law g k (m.listed - 1) grounded (omega (arith, l)) (omega (arith, l, within))).low in
-        omega (arith, last, rise)
-
-    later_lows : (k : ℕ) → m.listed ≤ k → k < length h.requests → (m.listed == length h.requests ≡ true) ⊎ (nat_le m.tag (low h m.listed) ≡ true) → m.tag ≤ low h k
-    later_lows k le l (inl z) = let all = eqb-true m.listed (length h.requests) z in absurd (omega (arith, le, l, all))
-    later_lows k le l (inr s) =
-        let first = leb-true m.tag (low h m.listed) s in
-        let rise = (law g m.listed k grounded le l).low in
-        omega (arith, first, rise)
-
--- ---- candidates in three parts
+-- ---- a request, as it is seen from states and by reports
 
 -- a candidate by what is said of its request
 abbrev pick : History → ℕ → Option (ℕ × StructureChange) → Bool → Bool → Option Candidate
@@ -189,6 +86,27 @@ behind-same h key start early tag k s le lo e =
     ap (λ b. pick h k (asked key s) (not (nat_le tag (low h k) || is_barred h k) && not b) (is_certain h start tag k)) (open_ ∙ sym e)
     ∙ ap (λ b. pick h k (asked key s) (is_possible h early tag k) (b && is_accepted h k && is_at_most (high h k) tag)) (below ∙ sym also)
 
+-- a request that has begun and isn't known to have ended is unsure
+pub unsure-same : (h : History) (key : Key) (start tag k : ℕ) (s : Sent) → low h k < tag → is_at_most (high h k) tag ≡ false → start ≤ tag
+    → candidate h key start tag (k, s) ≡ unsure h key (k, s)
+unsure-same h key start tag k s lo e le =
+    let now : nat_le tag (low h k) ≡ false = lt-leb tag (low h k) lo in
+    let open_ : is_at_most (high h k) start ≡ false = wider-most (high h k) start tag le e in
+    ap (λ b. pick h k (asked key s) (not (b || is_barred h k) && not (is_at_most (high h k) start)) (is_certain h start tag k)) now
+    ∙ (ap (λ b. pick h k (asked key s) (not (is_barred h k) && not b) (is_certain h start tag k)) open_
+    ∙ (ap (λ b. pick h k (asked key s) (not (is_barred h k) && true) (nat_le start (low h k) && is_accepted h k && b)) e
+    ∙ (ap (λ b. pick h k (asked key s) (not (is_barred h k) && true) b) (never (nat_le start (low h k)) (is_accepted h k))
+    ∙ ap (λ b. pick h k (asked key s) b false) (always (not (is_barred h k))))))
+  where
+    never : (a b : Bool) → (a && b && false) ≡ false
+    never true true = refl
+    never true false = refl
+    never false b = refl
+
+    always : (a : Bool) → (a && true) ≡ a
+    always true = refl
+    always false = refl
+
 take-enumerate : {X : Type 0} (n b : ℕ) (xs : List X) → take b (enumerate_from n xs) ≡ enumerate_from n (take b xs)
 take-enumerate n zero xs = refl
 take-enumerate n (suc b) [] = refl
@@ -216,96 +134,135 @@ dropped-in zero xs x i = i
 dropped-in (suc n) [] x i = absurd i
 dropped-in (suc n) (y ∷ ys) x i = inr (dropped-in n ys x i)
 
--- the requests before a place, between two places, and from the second on
-parts : {Y : Type 0} (f : ℕ × Sent → Option Y) (rs : List Sent) (a b : ℕ)
-    → filter_map f (enumerate_from 0 rs)
-    ≡ filter_map f (take a (take b (enumerate_from 0 rs))) ++ (filter_map f (drop a (take b (enumerate_from 0 rs))) ++ filter_map f (drop b (enumerate_from 0 rs)))
-parts f rs a b =
-    let all = enumerate_from 0 rs in
-    let front = take b all in
-    ap (λ xs. filter_map f xs) (sym (take-append-drop b all))
-    ∙ (filter_map-append f front (drop b all)
-    ∙ (ap (λ ys. ys ++ filter_map f (drop b all)) (ap (λ xs. filter_map f xs) (sym (take-append-drop a front)) ∙ filter_map-append f (take a front) (drop a front))
-    ∙ append_assoc (filter_map f (take a front)) (filter_map f (drop a front)) (filter_map f (drop b all))))
-
-front-number : (rs : List Sent) (a b : ℕ) (x : ℕ × Sent) → IsIn x (take a (take b (enumerate_from 0 rs))) → x.0 < a
-front-number rs a b x i =
-    let below : x.0 < 0 + a = taken-below 0 a (take b rs) x (subst (λ xs. IsIn x (take a xs)) (take-enumerate 0 b rs) i) in
-    omega (arith, below)
-
-middle-number : (rs : List Sent) (a b : ℕ) (x : ℕ × Sent) → IsIn x (drop a (take b (enumerate_from 0 rs))) → (a ≤ x.0) × (x.0 < length rs)
-middle-number rs a b x i =
-    let above = dropped-above 0 a (take b rs) x (subst (λ xs. IsIn x (drop a xs)) (take-enumerate 0 b rs) i) in
-    let within = enumerate-within 0 rs x (taken-in b (enumerate_from 0 rs) x (dropped-in a (take b (enumerate_from 0 rs)) x i)) in
-    (omega (arith, above.0), omega (arith, within.1))
-
--- no request from a place on may have been executed before reports with a tag
-abbrev pub AreLate : History → ℕ → ℕ → Type 0
-AreLate h end tag = (k : ℕ) → end ≤ k → k < length h.requests → tag ≤ low h k
-
--- From an opening before a mark: the requests up to the mark, and those behind it.
-pub candidates-split : (h : History) (key : Key) (m : Mark) (start tag end : ℕ) → IsFirm h m tag → start ≤ m.tag → AreLate h end tag
-    → candidates h key start tag ≡ candidates h key start m.tag ++ among h key m.tag tag m.listed end
-candidates-split h key m start tag end firm le late =
-    parts (candidate h key start tag) h.requests m.listed end
-    ∙ (ap (λ xs. xs ++ (filter_map (candidate h key start tag) middle ++ filter_map (candidate h key start tag) back)) front-same
-    ∙ (ap (λ xs. filter_map (candidate h key start m.tag) front ++ (xs ++ filter_map (candidate h key start tag) back)) middle-same
-    ∙ (ap (λ xs. filter_map (candidate h key start m.tag) front ++ (among h key m.tag tag m.listed end ++ xs)) (back-none tag late)
-    ∙ (ap (λ xs. filter_map (candidate h key start m.tag) front ++ xs) (append-nil (among h key m.tag tag m.listed end))
-    ∙ ap (λ xs. xs ++ among h key m.tag tag m.listed end) (sym early)))))
+pub nothing-between : (rs : List Sent) (a b : ℕ) → b ≤ a → drop a (take b (enumerate_from 0 rs)) ≡ []
+nothing-between rs a b le = drop_all a (take b (enumerate_from 0 rs)) (let most = length-most b (enumerate_from 0 rs) in omega (arith, most, le))
   where
-    front : List (ℕ × Sent)
-    front = take m.listed (take end (enumerate_from 0 h.requests))
+    length-most : (n : ℕ) (xs : List (ℕ × Sent)) → length (take n xs) ≤ n
+    length-most zero xs = omega arith
+    length-most (suc n) [] = omega arith
+    length-most (suc n) (x ∷ xs) = let more = length-most n xs in omega (arith, more)
 
-    middle : List (ℕ × Sent)
-    middle = drop m.listed (take end (enumerate_from 0 h.requests))
+take-take : {X : Type 0} (a b : ℕ) (xs : List X) → a ≤ b → take a (take b xs) ≡ take a xs
+take-take zero b xs le = refl
+take-take (suc a) zero xs le = absurd (omega (arith, le))
+take-take (suc a) (suc b) [] le = refl
+take-take (suc a) (suc b) (x ∷ xs) le = ap (λ l. x ∷ l) (take-take a b xs (omega (arith, le)))
 
-    back : List (ℕ × Sent)
-    back = drop end (enumerate_from 0 h.requests)
+-- the elements between two places, and those from the second to a third
+drop-between : {X : Type 0} (a b c : ℕ) (xs : List X) → a ≤ b → b ≤ c → drop a (take c xs) ≡ drop a (take b xs) ++ drop b (take c xs)
+drop-between zero b c xs le le2 = ap (λ l. l) (sym (ap (λ l. l ++ drop b (take c xs)) (sym (take-take b c xs le2)) ∙ take-append-drop b (take c xs)))
+drop-between (suc a) zero c xs le le2 = absurd (omega (arith, le))
+drop-between (suc a) (suc b) zero xs le le2 = absurd (omega (arith, le2))
+drop-between (suc a) (suc b) (suc c) [] le le2 = refl
+drop-between (suc a) (suc b) (suc c) (x ∷ xs) le le2 = drop-between a b c xs (omega (arith, le)) (omega (arith, le2))
 
-    at-most : (k : ℕ) → k < m.listed → is_at_most (high h k) tag ≡ is_at_most (high h k) m.tag
-    at-most k l = go (either m.past k)
-      where
-        go : (m.past ≤ k) ⊎ (k < m.past) → is_at_most (high h k) tag ≡ is_at_most (high h k) m.tag
-        go (inl le) = let o = firm.pending k le l in o ∙ sym (wider-most (high h k) m.tag tag firm.later o)
-        go (inr lt) = let e = firm.ended k lt in raised-most (high h k) m.tag tag firm.later e ∙ sym e
+-- requests with numbers from one to another, and those from it to a third
+pub between-append : {Y : Type 0} (f : ℕ × Sent → Option Y) (rs : List Sent) (a b c : ℕ) → a ≤ b → b ≤ c
+    → filter_map f (drop a (take c (enumerate_from 0 rs))) ≡ filter_map f (drop a (take b (enumerate_from 0 rs))) ++ filter_map f (drop b (take c (enumerate_from 0 rs)))
+between-append f rs a b c le le2 =
+    ap (λ xs. filter_map f xs) (drop-between a b c (enumerate_from 0 rs) le le2) ∙ filter_map-append f (drop a (take b (enumerate_from 0 rs))) (drop b (take c (enumerate_from 0 rs)))
 
-    front-same : filter_map (candidate h key start tag) front ≡ filter_map (candidate h key start m.tag) front
-    front-same =
-        filter_map-same (candidate h key start tag) (candidate h key start m.tag) front
-        (λ x i. let l = front-number h.requests m.listed end x i in early-same h key start m.tag tag x.0 x.1 (firm.lows x.0 l) firm.later (at-most x.0 l))
+pub between-number : (rs : List Sent) (a b : ℕ) (x : ℕ × Sent) → IsIn x (drop a (take b (enumerate_from 0 rs))) → (a ≤ x.0) × (x.0 < b) × (x.0 < length rs)
+between-number rs a b x i =
+    let above = dropped-above 0 a (take b rs) x (subst (λ xs. IsIn x (drop a xs)) (take-enumerate 0 b rs) i) in
+    let all = dropped-in a (take b (enumerate_from 0 rs)) x i in
+    let below : x.0 < 0 + b = taken-below 0 b rs x all in
+    let within = enumerate-within 0 rs x (taken-in b (enumerate_from 0 rs) x all) in
+    (omega (arith, above.0), omega (arith, below), omega (arith, within.1))
 
-    middle-same : filter_map (candidate h key start tag) middle ≡ among h key m.tag tag m.listed end
-    middle-same =
-        filter_map-same (candidate h key start tag) (candidate h key m.tag tag) middle
-        (λ x i. let w = middle-number h.requests m.listed end x i in behind-same h key start m.tag tag x.0 x.1 le (firm.later_lows x.0 w.0 w.1) (firm.ahead x.0 w.0 w.1))
+-- ---- requests in parts
 
-    back-none : (t : ℕ) → AreLate h end t → filter_map (candidate h key start t) back ≡ []
-    back-none t late =
-        filter_map-none (candidate h key start t) back
-        (λ x i. let w = dropped-above 0 end h.requests x i in late-none h key start t x.0 x.1 (late x.0 (omega (arith, w.0)) (omega (arith, w.1))))
-
-    early : candidates h key start m.tag ≡ filter_map (candidate h key start m.tag) front
-    early =
-        parts (candidate h key start m.tag) h.requests m.listed end
-        ∙ (ap (λ xs. filter_map (candidate h key start m.tag) front ++ (xs ++ filter_map (candidate h key start m.tag) back))
-        (filter_map-none (candidate h key start m.tag) middle
-        (λ x i. let w = middle-number h.requests m.listed end x i in late-none h key start m.tag x.0 x.1 (firm.later_lows x.0 w.0 w.1)))
-        ∙ (ap (λ xs. filter_map (candidate h key start m.tag) front ++ xs)
-        (back-none m.tag (λ k le l. let low_ = late k le l in let early_ = firm.later in omega (arith, low_, early_)))
-        ∙ append-nil (filter_map (candidate h key start m.tag) front)))
-
--- From an opening behind a mark: the requests that the mark doesn't hold as ended.
-pub candidates-behind : (h : History) (key : Key) (m : Mark) (start tag end : ℕ) → IsFirm h m tag → m.tag ≤ start → AreLate h end tag
-    → candidates h key start tag ≡ among h key start tag m.past end
-candidates-behind h key m start tag end firm le late =
-    parts (candidate h key start tag) h.requests m.past end
-    ∙ (ap (λ xs. xs ++ (among h key start tag m.past end ++ filter_map (candidate h key start tag) (drop end (enumerate_from 0 h.requests))))
-    (filter_map-none (candidate h key start tag) (take m.past (take end (enumerate_from 0 h.requests)))
-    (λ x i.
-    let l = front-number h.requests m.past end x i in
-    ended-none h key start tag x.0 x.1 (raised-most (high h x.0) m.tag start le (firm.ended x.0 l))))
-    ∙ (ap (λ xs. among h key start tag m.past end ++ xs)
+-- the requests before a number are all that count where the others may not have been executed
+pub candidates-front : (h : History) (key : Key) (start tag end : ℕ) → AreLate h end tag → candidates h key start tag ≡ among h key start tag 0 end
+candidates-front h key start tag end late =
+    ap (λ xs. filter_map (candidate h key start tag) xs) (sym (take-append-drop end (enumerate_from 0 h.requests)))
+    ∙ (filter_map-append (candidate h key start tag) (take end (enumerate_from 0 h.requests)) (drop end (enumerate_from 0 h.requests))
+    ∙ (ap (λ xs. among h key start tag 0 end ++ xs)
     (filter_map-none (candidate h key start tag) (drop end (enumerate_from 0 h.requests))
     (λ x i. let w = dropped-above 0 end h.requests x i in late-none h key start tag x.0 x.1 (late x.0 (omega (arith, w.0)) (omega (arith, w.1)))))
-    ∙ append-nil (among h key start tag m.past end)))
+    ∙ append-nil (among h key start tag 0 end)))
+
+-- where a mark holds, the requests are those that it says
+pub passed-same : (h : History) (key : Key) (m : Mark) (start tag n : ℕ) → HoldsFor h m n tag → start ≤ tag → among h key start tag 0 n ≡ passed h key m.tag m.past n start
+passed-same h key m start tag n holds le =
+    between-append (candidate h key start tag) h.requests 0 m.past n (omega arith) holds.order
+    ∙ (ap (λ xs. xs ++ among h key start tag m.past n) front ∙ ap (λ xs. among h key start m.tag 0 m.past ++ xs) (open_ holds.pending))
+  where
+    front : among h key start tag 0 m.past ≡ among h key start m.tag 0 m.past
+    front =
+        filter_map-same (candidate h key start tag) (candidate h key start m.tag) (take m.past (enumerate_from 0 h.requests))
+        (λ x i.
+        let l = (between-number h.requests 0 m.past x i).1 in
+        let e = holds.passed.ended x.0 l in
+        early-same h key start m.tag tag x.0 x.1 (holds.passed.begun x.0 l) holds.later (raised-most (high h x.0) m.tag tag holds.later e ∙ sym e))
+
+    open_ : (m.past ≡ n) ⊎ ArePending h m.past tag → among h key start tag m.past n ≡ unsures h key m.past n
+    open_ (inl e) =
+        ap (λ xs. filter_map (candidate h key start tag) xs) (nothing-between h.requests m.past n (omega (arith, e)))
+        ∙ sym (ap (λ xs. filter_map (unsure h key) xs) (nothing-between h.requests m.past n (omega (arith, e))))
+    open_ (inr pending) =
+        filter_map-same (candidate h key start tag) (unsure h key) (drop m.past (take n (enumerate_from 0 h.requests)))
+        (λ x i. let w = between-number h.requests m.past n x i in unsure-same h key start tag x.0 x.1 (holds.begun x.0 w.1) (pending x.0 w.0 w.2) le)
+
+-- From a state that a mark holds: the requests that it says, and those behind it.
+pub passed-split : (h : History) (key : Key) (m : Mark) (start tag n end : ℕ) → GoesOn h m n tag → m.opened ≤ tag → start ≤ m.opened → n ≤ end
+    → among h key start tag 0 end ≡ passed h key m.tag m.past n start ++ among h key m.opened tag n end
+passed-split h key m start tag n end goes below le order =
+    between-append (candidate h key start tag) h.requests 0 n end (omega arith) order
+    ∙ (ap (λ xs. xs ++ among h key start tag n end) (passed-same h key m start tag n goes.holds (omega (arith, le, below)))
+    ∙ ap (λ xs. passed h key m.tag m.past n start ++ xs)
+    (filter_map-same (candidate h key start tag) (candidate h key m.opened tag) (drop n (take end (enumerate_from 0 h.requests)))
+    (λ x i. let w = between-number h.requests n end x i in behind-same h key start m.opened tag x.0 x.1 le (goes.late x.0 w.0 w.2) (goes.ahead x.0 w.0 w.2))))
+
+-- From a state behind a mark: the requests that it doesn't hold as passed.
+pub passed-behind : (h : History) (key : Key) (m : Mark) (start tag end : ℕ) → HavePassed h m.past m.tag → m.tag ≤ start → m.past ≤ end
+    → among h key start tag 0 end ≡ among h key start tag m.past end
+passed-behind h key m start tag end have le order =
+    between-append (candidate h key start tag) h.requests 0 m.past end (omega arith) order
+    ∙ ap (λ xs. xs ++ among h key start tag m.past end)
+    (filter_map-none (candidate h key start tag) (take m.past (enumerate_from 0 h.requests))
+    (λ x i.
+    let l = (between-number h.requests 0 m.past x i).1 in
+    ended-none h key start tag x.0 x.1 (raised-most (high h x.0) m.tag start le (have.ended x.0 l))))
+
+-- less is held of fewer requests
+pub holds-below : (h : History) (m : Mark) (n listed tag : ℕ) → m.past ≤ n → n ≤ listed → HoldsFor h m listed tag → HoldsFor h m n tag
+holds-below h m n listed tag le order holds =
+    record {
+      later = holds.later;
+      order = le;
+      within = let w = holds.within in omega (arith, w, order);
+      passed = holds.passed;
+      pending = go holds.pending;
+      begun = λ k l. holds.begun k (omega (arith, l, order));
+    }
+  where
+    go : (m.past ≡ listed) ⊎ ArePending h m.past tag → (m.past ≡ n) ⊎ ArePending h m.past tag
+    go (inl e) = inl (omega (arith, le, order, e))
+    go (inr pending) = inr pending
+
+-- ---- what is so of one request is so of those before it, or behind it
+
+pub have-passed : BoundsRise → (g : Ground) (past tag last : ℕ) → IsGrounded g → past ≤ length g.history.requests → past ≡ last + 1 → is_at_most (high g.history last) tag ≡ true → low g.history last < tag
+    → HavePassed g.history past tag
+have-passed law g past tag last grounded within is e lt =
+    record {
+      ended = λ k l. lower-most (high g.history k) (high g.history last) tag (law g k last grounded (omega (arith, l, is)) (omega (arith, within, is))).high e;
+      begun = λ k l. let rise = (law g k last grounded (omega (arith, l, is)) (omega (arith, within, is))).low in omega (arith, rise, lt);
+    }
+
+pub none-passed : (h : History) (past tag : ℕ) → past ≡ 0 → HavePassed h past tag
+none-passed h past tag zero_ = record { ended = λ k l. absurd (omega (arith, l, zero_)); begun = λ k l. absurd (omega (arith, l, zero_)) }
+
+pub have-begun : BoundsRise → (g : Ground) (end tag last : ℕ) → IsGrounded g → end ≤ length g.history.requests → end ≡ last + 1 → low g.history last < tag → HaveBegun g.history end tag
+have-begun law g end tag last grounded within is lt k l =
+    let rise = (law g k last grounded (omega (arith, l, is)) (omega (arith, within, is))).low in
+    omega (arith, rise, lt)
+
+pub are-pending : BoundsRise → (g : Ground) (first tag : ℕ) → IsGrounded g → is_at_most (high g.history first) tag ≡ false → ArePending g.history first tag
+are-pending law g first tag grounded e k le l = higher-most (high g.history first) (high g.history k) tag (law g first k grounded le l).high e
+
+pub are-late : BoundsRise → (g : Ground) (first tag : ℕ) → IsGrounded g → tag ≤ low g.history first → AreLate g.history first tag
+are-late law g first tag grounded le k at l =
+    let rise = (law g first k grounded at l).low in
+    omega (arith, rise, le)

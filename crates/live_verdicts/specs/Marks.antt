@@ -1,17 +1,19 @@
 -- What verdicts go on from while entries come: what was found of a structure at some tags.
-use Rattle.std.specs.Prelude.{◌≡◌, ℕ, ◌-◌, ◌<◌, ◌≤◌, ◌⊎◌, List, [], ◌∷◌, ◌++◌, length, map, filter, filter_map, take, drop, Bool, not, ◌&&◌, ◌||◌, ◌==◌, nat_lt, nat_le, Option, Some, None, if◌then◌else◌}
-use Rattle.std.specs.List.{All, AllByRecursion, enumerate_from}
+use Rattle.std.specs.Prelude.{◌≡◌, ℕ, ◌+◌, ◌<◌, ◌≤◌, ◌⊎◌, min, unwrap_or, List, [], ◌∷◌, ◌++◌, length, slice_get, map, filter, filter_map, take, drop, true, false, nat_le, Option, Some, None}
+use Rattle.std.specs.Option.{option_map_or}
+use Rattle.std.specs.List.{All, AllByRecursion, HoldsAt, enumerate_from}
 use Rattle.hk_base.specs.TailoringParts.{TailoringParts}
+use Rattle.hk_base.specs.Parameters.{key_eq}
 use Rattle.hk_base.specs.declared.types.Key.{Key}
 use Rattle.hk_base.specs.declared.types.Structure.{Structure}
 use Rattle.ground_history.specs.Histories.{Kept, History, tag_of}
 use Rattle.ground_history.specs.Evidence.{low, high}
-use Rattle.ground_history.specs.Ground.{Ground, newest_told}
-use Rattle.definition_intervals.specs.Openings.{Candidate, candidate, candidates, is_at_most, openings}
-use Rattle.definition_intervals.specs.Founds.{found_after_all, first_after_all, AreSameFound, IsFormedFound}
-use Rattle.definition_intervals.specs.Bases.{IsBasis, IsFormedBasis}
+use Rattle.ground_history.specs.Ground.{Ground}
+use Rattle.definition_intervals.specs.Openings.{Candidate, candidate, is_at_most}
+use Rattle.definition_intervals.specs.Founds.{found_after, found_after_all, first_after, first_after_all, AreSameFound, IsFormedFound, IsBasisOf}
+use Rattle.definition_intervals.specs.Bases.{IsFormedBasis}
 use Rattle.opening_sweeps.specs.Requests.{Start, boot_starts}
-use Rattle.live_verdicts.specs.Changes.{told_below, told_start_below}
+use Rattle.live_verdicts.specs.Changes.{told_below, told_start_below, unsures, IsBelow, IsUpTo}
 use Rattle.live_verdicts.specs.declared.mark.Mark.{Mark}
 use Rattle.live_verdicts.specs.declared.mark.StructureMark.{StructureMark}
 
@@ -19,19 +21,27 @@ use Rattle.live_verdicts.specs.declared.mark.StructureMark.{StructureMark}
 abbrev pub starts_below : TailoringParts → History → Key → ℕ → List Start
 starts_below t h key tag = boot_starts t h key ++ told_below h key tag
 
--- what is found of an opening for reports with a tag
-abbrev pub found_at : TailoringParts → History → Key → ℕ → Start → Option (List (Option Structure))
-found_at t h key tag s = found_after_all t (candidates h key s.tag tag) (Some (s.state ∷ []))
+-- the requests from one number to another that may have changed a structure between an opening and a report
+abbrev pub among : History → Key → ℕ → ℕ → ℕ → ℕ → List Candidate
+among h key from tag first end = filter_map (candidate h key from tag) (drop first (take end (enumerate_from 0 h.requests)))
+
+-- the requests before one number, as they are at a tag, and those from it on and below another, as they are before any of them is known to have ended
+abbrev pub passed : History → Key → ℕ → ℕ → ℕ → ℕ → List Candidate
+passed h key tag past listed from = among h key from tag 0 past ++ unsures h key past listed
 
 -- what is found of a state before any request
 abbrev pub first_found : Start → Option (List (Option Structure))
 first_found s = Some (s.state ∷ [])
 
+-- what is found of an opening by requests, which depend on its tag
+abbrev pub found_at : TailoringParts → (ℕ → List Candidate) → Start → Option (List (Option Structure))
+found_at t requests s = found_after_all t (requests s.tag) (first_found s)
+
 -- the first open change of the latest of some openings
-abbrev pub first_at : History → Key → ℕ → List Start → Option ℕ
-first_at h key tag [] = None
-first_at h key tag (s ∷ []) = first_after_all (candidates h key s.tag tag) None
-first_at h key tag (s ∷ later ∷ ss) = first_at h key tag (later ∷ ss)
+abbrev pub first_at : (ℕ → List Candidate) → List Start → Option ℕ
+first_at requests [] = None
+first_at requests (s ∷ []) = first_after_all (requests s.tag) None
+first_at requests (s ∷ later ∷ ss) = first_at requests (later ∷ ss)
 
 -- some of the finds is the same
 abbrev pub HasSame : List (Option (List (Option Structure))) → Option (List (Option Structure)) → Type 0
@@ -43,34 +53,76 @@ pub record AreAlike (fs gs : List (Option (List (Option Structure)))) : Type 0 w
   pub there : AllByRecursion (HasSame gs) fs
   pub back : AllByRecursion (HasSame fs) gs
 
--- A mark holds what is found of the openings of a structure at its tag, each find once, and the basis of verdicts there.
+-- what is found of some openings: each find once, and the first open change of the latest opening
+pub record AreFound (t : TailoringParts) (requests : ℕ → List Candidate) (starts : List Start) (fs : List (Option (List (Option Structure)))) (change : Option ℕ) : Type 0 where
+  pub finds : AreAlike (map (found_at t requests) starts) fs
+  pub first : 1 ≤ length starts → change ≡ first_at requests starts
+
+-- the finds of a mark are valid, and its basis is what they leave
+pub record IsFormedMark (t : TailoringParts) (m : Mark) : Type 0 where
+  pub finds : All (IsFormedFound t) m.finds.items
+  pub basis : IsBasisOf m.finds.items (unwrap_or m.first 0) m.basis
+  pub valid : IsFormedBasis t m.basis
+
+-- A mark holds what is found of openings by the requests that have passed at its tag and those behind them, whatever number those are below, within its range.
+pub record IsMarkOf (g : Ground) (key : Key) (starts : List Start) (m : Mark) : Type 0 where
+  pub behind : m.past ≤ m.listed
+  pub order : m.listed ≤ m.calm
+  pub within : m.calm ≤ length g.history.requests
+  pub formed : IsFormedMark g.tailoring m
+  pub found : (n : ℕ) → m.listed ≤ n → n ≤ m.calm → AreFound g.tailoring (passed g.history key m.tag m.past n) starts m.finds.items m.first
+
+-- a mark of a structure: of the states that open below its tag, none of them from another tag on
 pub record IsMark (g : Ground) (key : Key) (m : Mark) : Type 0 where
-  pub finds : AreAlike (map (found_at g.tailoring g.history key m.tag) (starts_below g.tailoring g.history key m.tag)) m.finds.items
-  pub formed : All (IsFormedFound g.tailoring) m.finds.items
-  pub first : 1 ≤ length (starts_below g.tailoring g.history key m.tag) → m.first ≡ first_at g.history key m.tag (starts_below g.tailoring g.history key m.tag)
-  pub basis : IsBasis g.tailoring (openings g.tailoring g.history key m.tag) m.basis
-  pub valid : IsFormedBasis g.tailoring m.basis
+  pub mark : IsMarkOf g key (starts_below g.tailoring g.history key m.tag) m
+  pub opened : m.opened ≤ m.tag
+  pub told : told_below g.history key m.tag ≡ told_below g.history key m.opened
 
--- the requests before this number, and no others, are known to have ended at the mark's tag; where the mark holds others that may have
--- been executed, they haven't ended at the later tag either
-abbrev pub is_past : History → Mark → ℕ → Bool
-is_past h m tag =
-    (m.past == 0 || is_at_most (high h (m.past - 1)) m.tag)
-    && (m.past == length h.requests || not (is_at_most (high h m.past) (if m.past == m.listed then m.tag else tag)))
+-- the requests before a number are known to have ended at a tag, and may have been executed below it
+pub record HavePassed (h : History) (past tag : ℕ) : Type 0 where
+  pub ended : (k : ℕ) → k < past → is_at_most (high h k) tag ≡ true
+  pub begun : (k : ℕ) → k < past → low h k < tag
 
--- the requests before this number, and no others, may have been executed below the mark's tag
-abbrev pub is_listed : History → Mark → Bool
-is_listed h m =
-    (m.listed == 0 || nat_lt (low h (m.listed - 1)) m.tag) && (m.listed == length h.requests || nat_le m.tag (low h m.listed))
+-- the requests before a number may have been executed below a tag
+abbrev pub HaveBegun : History → ℕ → ℕ → Type 0
+HaveBegun h end tag = (k : ℕ) → k < end → low h k < tag
 
--- whether verdicts on reports with a tag go on from a mark
-abbrev pub is_firm : History → Mark → ℕ → Bool
-is_firm h m tag =
-    nat_le m.tag tag && (nat_le m.past m.listed && (nat_le m.listed (length h.requests) && (is_listed h m && is_past h m tag)))
+-- the requests from a number on aren't known to have ended at a tag
+abbrev pub ArePending : History → ℕ → ℕ → Type 0
+ArePending h first tag = (k : ℕ) → first ≤ k → k < length h.requests → is_at_most (high h k) tag ≡ false
 
--- the requests from one number to another that may have changed a structure between an opening and a report
-abbrev pub among : History → Key → ℕ → ℕ → ℕ → ℕ → List Candidate
-among h key from tag first end = filter_map (candidate h key from tag) (drop first (take end (enumerate_from 0 h.requests)))
+-- no request from a number on may have been executed below a tag
+abbrev pub AreLate : History → ℕ → ℕ → Type 0
+AreLate h first tag = (k : ℕ) → first ≤ k → k < length h.requests → tag ≤ low h k
+
+-- A mark holds for reports with a tag, of the requests below a number: those that it holds as passed are, and the others haven't ended.
+pub record HoldsFor (h : History) (m : Mark) (listed tag : ℕ) : Type 0 where
+  pub later : m.tag ≤ tag
+  pub order : m.past ≤ listed
+  pub within : listed ≤ length h.requests
+  pub passed : HavePassed h m.past m.tag
+  pub pending : (m.past ≡ listed) ⊎ ArePending h m.past tag
+  pub begun : HaveBegun h listed tag
+
+-- Verdicts on reports with a tag go on from a mark with the requests below a number: the others come behind each state that it holds.
+pub record GoesOn (h : History) (m : Mark) (listed tag : ℕ) : Type 0 where
+  pub from : m.listed ≤ listed
+  pub to : listed ≤ m.calm
+  pub holds : HoldsFor h m listed tag
+  pub ahead : ArePending h listed m.opened
+  pub late : AreLate h listed m.opened
+
+-- Nothing but open requests comes between a mark and reports with a tag, where the requests below a number may have been executed: no state was told.
+pub record IsNear (h : History) (key : Key) (m : Mark) (listed tag : ℕ) : Type 0 where
+  pub from : m.listed ≤ listed
+  pub holds : HoldsFor h m listed tag
+  pub untold : told_below h key tag ≡ told_below h key m.tag
+
+-- the requests below a number, and no others, may have been executed below a tag
+pub record AreListedBelow (h : History) (tag listed : ℕ) : Type 0 where
+  pub within : listed ≤ length h.requests
+  pub begun : HaveBegun h listed tag
+  pub late : AreLate h listed tag
 
 -- the kept packets from a tag on
 abbrev pub kept_from : ℕ → History → List Kept
@@ -89,10 +141,39 @@ abbrev pub first_by : History → Key → ℕ → ℕ → ℕ → List Start →
 first_by h key tag first end [] given = given
 first_by h key tag first end (s ∷ ss) given = first_by h key tag first end ss (first_after_all (among h key s.tag tag first end) None)
 
--- nothing comes between a mark and reports with a tag: no request may have been executed there, and nothing was told
-pub record IsNear (h : History) (m : Mark) (tag : ℕ) : Type 0 where
-  pub untold : newest_told h.kept < m.tag
-  pub next : m.listed < length h.requests → tag ≤ low h m.listed
+-- a mark that holds up to another number
+abbrev pub with_calm : Mark → ℕ → Mark
+with_calm m calm = record m { calm = calm }
+
+-- a mark that goes on to the request where another ends
+pub record IsGrown (m later : Mark) : Type 0 where
+  pub tag : later.tag ≡ m.tag
+  pub opened : later.opened ≡ m.opened
+  pub past : later.past ≡ m.past
+  pub listed : later.listed ≡ m.calm + 1
+  pub calm : later.calm ≡ m.calm + 1
+
+-- a request leaves what a mark holds as it is
+pub record Leaves (t : TailoringParts) (c : Candidate) (m : Mark) : Type 0 where
+  pub finds : All (λ f. AreSameFound f (found_after t c f)) m.finds.items
+  pub first : first_after c m.first ≡ m.first
+
+-- a number, or that of the first request that was touched, if that is less
+abbrev pub narrowed_to : ℕ → Option ℕ → ℕ
+narrowed_to calm None = calm
+narrowed_to calm (Some touched) = min calm touched
+
+-- a mark stays where it rests on tags below one from which on something may have changed, and on requests before one that was touched
+abbrev pub IsKept : Mark → Option ℕ → Option ℕ → Type 0
+IsKept m from touched = IsBelow m.tag from × IsUpTo m.listed touched
+
+-- the place of a mark of a structure that is as wanted, among those that are held
+abbrev pub IsPlaceOf : (Mark → Type 0) → Key → List StructureMark → ℕ → Type 0
+IsPlaceOf Wanted key held place = (place < length held) × HoldsAt (λ x. (key_eq x.key key ≡ true) × Wanted x.mark) held place
+
+-- up to which number a mark holds, by its place among those that are held
+abbrev pub calm_at : List StructureMark → ℕ → ℕ
+calm_at held place = option_map_or (λ x. x.mark.calm) (slice_get held place) 0
 
 -- what is held: marks of structures
 abbrev pub Live : Type 0

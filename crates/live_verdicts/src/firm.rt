@@ -1,73 +1,97 @@
-//! Whether verdicts on reports with a tag can go on from a mark, and how far the requests are passed.
-ghost use Rattle.std.specs.Prelude.{◌≡◌, ◌≤◌, ◌<◌, length};
-ghost use Rattle.ground_history.specs.Evidence.{low};
+//! Whether verdicts on reports with a tag go on from a mark.
+ghost use Rattle.std.specs.Prelude.{◌≡◌, ◌<◌, ◌≤◌, true, length};
 ghost use Rattle.definition_intervals.specs.Openings as openings;
-ghost use Rattle.live_verdicts.specs.Marks as marks;
+ghost use Rattle.live_verdicts.specs.Changes.{told_below};
+ghost use Rattle.live_verdicts.specs.Marks.{ArePending, AreLate, GoesOn, HaveBegun, HavePassed, HoldsFor, IsNear};
 
 use crate::mark::Mark;
-use ground_history::History;
+use ground_history::{History, bounds_rise};
+use hk_base::Key;
 
-/// Whether verdicts on reports with a tag can go on from a mark.
-pub(crate) fn is_firm(history: &History, mark: &Mark, tag: u64) -> bool
-    ensures { result ≡ marks.is_firm history.now.history mark.now tag }
+/// Whether nothing but open requests comes between a mark and reports with a tag, where the requests below a number may have been executed.
+pub(crate) fn is_near(history: &History, key: Key, mark: &Mark, listed: u64, tag: u64) -> bool
+    ensures { result ≡ true → IsNear history.now.history key mark.now listed tag }
 {
-    if mark.tag > tag || mark.past > mark.listed || mark.listed > history.count() {
-        return false;
-    }
-    is_listed(history, mark) && is_past(history, mark, tag)
+    mark.listed <= listed
+        && is_untold(history, key, mark.tag, tag)
+        && holds_for(history, mark, listed, tag)
 }
 
-/// Whether the requests that the mark holds as listed are those with a lower bound below its tag.
-fn is_listed(history: &History, mark: &Mark) -> bool
-    requires { mark.now.listed ≤ length history.now.history.requests }
-    ensures { result ≡ marks.is_listed history.now.history mark.now }
+/// Whether verdicts on reports with a tag go on from a mark with the requests below a number.
+pub(crate) fn goes_on(history: &History, mark: &Mark, listed: u64, tag: u64) -> bool
+    ensures { result ≡ true → GoesOn history.now.history mark.now listed tag }
 {
-    let listed = mark.listed;
-    (listed == 0 || history.low(listed - 1) < mark.tag)
-        && (listed == history.count() || mark.tag <= history.low(listed))
+    mark.listed <= listed
+        && listed <= mark.calm
+        && holds_for(history, mark, listed, tag)
+        && are_pending(history, listed, mark.opened)
+        && are_late(history, listed, mark.opened)
 }
 
-/// Whether the requests that the mark holds as past are those that are known to have ended.
-fn is_past(history: &History, mark: &Mark, tag: u64) -> bool
-    requires { mark.now.past ≤ length history.now.history.requests }
-    ensures { result ≡ marks.is_past history.now.history mark.now tag }
+/// Whether a mark holds for reports with a tag, of the requests below a number.
+fn holds_for(history: &History, mark: &Mark, listed: u64, tag: u64) -> bool
+    ensures { result ≡ true → HoldsFor history.now.history mark.now listed tag }
 {
-    let past = mark.past;
-    let until = if past == mark.listed { mark.tag } else { tag };
-    (past == 0 || is_at_most(history.high(past - 1), mark.tag))
-        && (past == history.count() || !is_at_most(history.high(past), until))
+    mark.tag <= tag
+        && mark.past <= listed
+        && listed <= history.count()
+        && have_passed(history, mark.past, mark.tag)
+        && (mark.past == listed || are_pending(history, mark.past, tag))
+        && have_begun(history, listed, tag)
 }
 
-/// The number of the first request, from one on, that isn't executed below a tag; that of all requests where there is none.
-pub(crate) fn listed_below(history: &History, from: u64, tag: u64) -> u64
-    requires { from ≤ length history.now.history.requests }
-    ensures from { from ≤ result }
-    ensures to { result ≤ length history.now.history.requests }
-    ensures next { result < length history.now.history.requests → tag ≤ low history.now.history result }
+/// Whether no state of the structure was told from a tag on and below another.
+fn is_untold(history: &History, key: Key, from: u64, tag: u64) -> bool
+    ensures { result ≡ true → from ≤ tag → told_below history.now.history key tag ≡ told_below history.now.history key from }
 {
-    for number in from..history.count() {
-        if history.low(number) >= tag {
-            return number;
-        }
-    }
-    history.count()
+    let _tailoring = history.tailoring();
+    from == tag || history.newest_told() < from
 }
 
-/// The number of the first request, from one on and before another, that isn't known to have ended at a tag.
-pub(crate) fn ended_before(history: &History, from: u64, to: u64, tag: u64) -> u64
-    requires order { from ≤ to }
-    requires within { to ≤ length history.now.history.requests }
-    ensures { result ≤ to }
+/// Whether the requests before a number are known to have ended at a tag, and may have been executed below it.
+fn have_passed(history: &History, past: u64, tag: u64) -> bool
+    requires { past ≤ length history.now.history.requests }
+    ensures { result ≡ true → HavePassed history.now.history past tag }
 {
-    for number in from..to {
-        if !is_at_most(history.high(number), tag) {
-            return number;
-        }
-    }
-    to
+    // A law: it says that bounds rise, and does nothing.
+    bounds_rise();
+    let _tailoring = history.tailoring();
+    past == 0 || (is_at_most(history.high(past - 1), tag) && history.low(past - 1) < tag)
 }
 
-fn is_at_most(known: Option<u64>, tag: u64) -> bool
+/// Whether the requests before a number may have been executed below a tag.
+fn have_begun(history: &History, end: u64, tag: u64) -> bool
+    requires { end ≤ length history.now.history.requests }
+    ensures { result ≡ true → HaveBegun history.now.history end tag }
+{
+    // A law: it says that bounds rise, and does nothing.
+    bounds_rise();
+    let _tailoring = history.tailoring();
+    end == 0 || history.low(end - 1) < tag
+}
+
+/// Whether the requests from a number on aren't known to have ended at a tag.
+fn are_pending(history: &History, first: u64, tag: u64) -> bool
+    ensures { result ≡ true → ArePending history.now.history first tag }
+{
+    // A law: it says that bounds rise, and does nothing.
+    bounds_rise();
+    let _tailoring = history.tailoring();
+    first >= history.count() || !is_at_most(history.high(first), tag)
+}
+
+/// Whether no request from a number on may have been executed below a tag.
+fn are_late(history: &History, first: u64, tag: u64) -> bool
+    ensures { result ≡ true → AreLate history.now.history first tag }
+{
+    // A law: it says that bounds rise, and does nothing.
+    bounds_rise();
+    let _tailoring = history.tailoring();
+    first >= history.count() || tag <= history.low(first)
+}
+
+/// Whether a tag is known and no greater than another.
+pub(crate) fn is_at_most(known: Option<u64>, tag: u64) -> bool
     ensures { result ≡ openings.is_at_most known tag }
 {
     match known {

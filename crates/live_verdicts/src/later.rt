@@ -1,19 +1,19 @@
 //! From a mark on to a later tag.
-ghost use Rattle.std.specs.Prelude.{◌≡◌, ◌≤◌, ◌++◌, ◌∷◌, [], true, List, Option, None, IfOk, IfSome, All, map, length, option_to_list};
+ghost use Rattle.std.specs.Prelude.{◌≡◌, ◌≢◌, ◌≤◌, ◌<◌, ◌⊎◌, ◌++◌, ◌∷◌, [], true, List, Option, None, IfOk, IfSome, All, map, length, option_to_list};
 ghost use Rattle.hk_base.specs.declared.types.Structure.{Structure};
-ghost use Rattle.ground_history.specs.Ground.{IsGrounded};
+ghost use Rattle.ground_history.specs.Ground.{IsGrounded, newest_told};
 ghost use Rattle.definition_intervals.specs.Founds.{IsFormedFound, first_after_all};
 ghost use Rattle.hk_base.specs.TailoringParts.{TailoringParts};
 ghost use Rattle.opening_sweeps.specs.Requests.{IsFormedStart};
 ghost use Rattle.live_verdicts.specs.Marks as marks;
-ghost use Rattle.live_verdicts.specs.Marks.{AreAlike, IsMark, found_by, first_by, first_found};
+ghost use Rattle.live_verdicts.specs.Marks.{AreAlike, GoesOn, HoldsFor, IsMark, found_by, first_by, first_found};
 
 use crate::between::{Numbers, among, told_between};
 use crate::finds::{add_find, basis_of_finds, finds_over, first_over, found_from};
-use crate::firm::{ended_before, listed_below};
+use crate::counting::ended_before;
 use crate::mark::Mark;
-use definition_intervals::{copied_state, finds_give_bases, openings_are_found, same_is_found};
-use ground_history::{History, bounds_rise};
+use definition_intervals::{copied_state, same_is_found};
+use ground_history::History;
 use hk_base::{Items, Key, Memory, Structure};
 use opening_sweeps::{Start, boot_start, starts_rise};
 use std::alloc::Global;
@@ -25,32 +25,27 @@ pub(crate) struct Finding {
     pub first: Option<u64>,
 }
 
-/// The mark at a tag, from one that is firm for it.
+/// The mark for reports with a tag, from one that goes on to it with the requests below the first of the numbers: it holds of those below the last.
 pub(crate) fn later_mark(
     alloc: Global,
     history: &History,
     key: Key,
     mark: &Mark,
+    numbers: Numbers,
     tag: u64,
 ) -> Result<Mark, Memory>
     requires mark { IsMark history.now key mark.now }
-    requires firm { marks.is_firm history.now.history mark.now tag ≡ true }
-    ensures mark { IfOk result (IsMark history.now key) }
-    ensures tag { IfOk result (λ later. later.tag ≡ tag) }
+    requires goes { GoesOn history.now.history mark.now numbers.first tag }
+    requires order { numbers.first ≤ numbers.end }
+    requires within { numbers.end ≤ length history.now.history.requests }
+    ensures past { IfOk result (λ later. later.past ≤ numbers.end) }
+    ensures mark { IfOk result (λ later. HoldsFor history.now.history later numbers.end tag → IsMark history.now key later) }
 {
-    // Laws: they say what is found of openings and that bounds rise, and do nothing.
-    openings_are_found();
+    // Laws: they say that the same is found of the same, and do nothing.
     same_is_found();
-    finds_give_bases();
     starts_rise();
-    bounds_rise();
     let tailoring = history.tailoring();
-    let listed = listed_below(history, mark.listed, tag);
-    let tail = Numbers {
-        first: mark.listed,
-        end: listed,
-    };
-    let tail = among(alloc, history, key, mark.tag, tag, tail)?;
+    let tail = among(alloc, history, key, mark.opened, tag, numbers)?;
     let finding = Finding {
         finds: finds_over(alloc, tailoring, &tail, &mark.finds)?,
         first: first_over(&tail, mark.first),
@@ -58,18 +53,59 @@ pub(crate) fn later_mark(
     let starts = told_between(alloc, history, key, mark.tag, tag)?;
     let behind = Numbers {
         first: mark.past,
-        end: listed,
+        end: numbers.end,
     };
     let finding = with_starts(alloc, history, key, tag, behind, &starts, finding)?;
     let basis = basis_of_finds(alloc, &finding.finds, finding.first)?;
+    let past = ended_before(history, mark.past, numbers.end, tag);
+    let tag = mark_tag(history, mark.tag, past, tag);
     Ok(Mark {
         tag,
-        past: ended_before(history, mark.past, listed, tag),
-        listed,
+        opened: opened_at(history, mark.opened, &starts, tag),
+        past,
+        listed: numbers.end,
+        calm: numbers.end,
         finds: finding.finds,
         first: finding.first,
         basis,
     })
+}
+
+/// The tag from which on no state opens below another, where these opened behind an earlier one.
+fn opened_at(history: &History, opened: u64, starts: &[Start<'_>], tag: u64) -> u64
+    ensures none { starts.now ≡ [] → result ≡ opened }
+    ensures some { starts.now ≢ [] → (result ≤ tag) × ((newest_told history.now.history.kept < result) ⊎ (result ≡ tag)) }
+{
+    if starts.is_empty() {
+        return opened;
+    }
+    history.newest_told().saturating_add(1).min(tag)
+}
+
+/// The least tag, from one on and up to another, above the states that were told and at which so many requests have ended.
+fn mark_tag(history: &History, from: u64, past: u64, tag: u64) -> u64
+    requires order { from ≤ tag }
+    requires within { past ≤ length history.now.history.requests }
+    ensures from { from ≤ result }
+    ensures to { result ≤ tag }
+    ensures untold { (newest_told history.now.history.kept < result) ⊎ (result ≡ tag) }
+{
+    let told = history.newest_told().saturating_add(1);
+    from.max(told).max(ended_at(history, past)).min(tag)
+}
+
+/// A tag at which a number of requests have ended; the greatest where it isn't known.
+fn ended_at(history: &History, past: u64) -> u64
+    requires { past ≤ length history.now.history.requests }
+{
+    let Some(last) = past.checked_sub(1) else {
+        return 0;
+    };
+    let begun = history.low(last).saturating_add(1);
+    match history.high(last) {
+        Some(ended) => ended.max(begun),
+        None => u64::MAX,
+    }
 }
 
 /// What is found with more openings, whose requests have numbers from one on and below another.
@@ -132,16 +168,15 @@ fn with_start(
 pub(crate) fn first_mark(alloc: Global, history: &History, key: Key) -> Result<Mark, Memory>
     ensures { IfOk result (IsMark history.now key) }
 {
-    // Laws: they say what is found of openings, and do nothing.
-    openings_are_found();
-    finds_give_bases();
     let _tailoring = history.tailoring();
     let finds = first_finds(alloc, boot_start(history, key))?;
     let basis = basis_of_finds(alloc, &finds, None)?;
     Ok(Mark {
         tag: 0,
+        opened: 0,
         past: 0,
         listed: 0,
+        calm: 0,
         finds,
         first: None,
         basis,

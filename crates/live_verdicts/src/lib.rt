@@ -1,14 +1,20 @@
 //! Verdicts on parameter reports while entries come.
 #![tactic(auto)]
 
+mod behind;
 mod between;
 mod changes;
+mod counting;
 mod finds;
 mod firm;
+mod forgetting;
+mod growing;
+mod held;
 mod later;
 mod live;
 mod mark;
-mod near;
+mod reaching;
+mod unsure;
 
 pub use changes::{changed_by_kept, changed_by_sent};
 pub use live::LiveVerdicts;

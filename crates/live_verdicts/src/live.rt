@@ -1,28 +1,26 @@
 //! The verdicts.
-ghost use Rattle.std.specs.Prelude.{◌≡◌, ◌≤◌, ◌<◌, ◌++◌, ◌∷◌, [], true, Bool, List, IfOk, IfSome, OnOk, All, length, take};
-ghost use Rattle.std.specs.List.{HoldsAt};
+ghost use Rattle.std.specs.Prelude.{◌≡◌, ◌≤◌, Bool, List, IfOk, IfSome, length};
 ghost use Rattle.hk_base.specs.TailoringParts.{TailoringParts};
-ghost use Rattle.hk_base.specs.Parameters.{key_eq};
 ghost use Rattle.ground_history.specs.Histories.{new_history};
-ghost use Rattle.ground_history.specs.Ground.{Ground, IsGrounded};
+ghost use Rattle.ground_history.specs.Ground.{Ground};
 ghost use Rattle.definition_intervals.specs.Verdicts as verdicts;
-ghost use Rattle.live_verdicts.specs.Changes.{AreSameBelow};
-ghost use Rattle.live_verdicts.specs.Marks as marks;
-ghost use Rattle.live_verdicts.specs.Marks.{IsMark, StandsFor};
-ghost use Rattle.live_verdicts.specs.declared.mark.StructureMark as declared;
+ghost use Rattle.live_verdicts.specs.Changes.{AreSameBelow, AreUnsureSame};
+ghost use Rattle.live_verdicts.specs.Marks.{AreListedBelow, IsNear, IsPlaceOf, StandsFor};
+ghost use Rattle.live_verdicts.specs.declared.mark.Mark as declared;
 
-use crate::firm::is_firm;
-use crate::later::{first_mark, later_mark};
-use crate::mark::{Mark, StructureMark};
-use crate::near::is_near;
-use definition_intervals::{Verdict, bases_decide, verdict, verdict_on};
-use ground_history::{History, bounds_rise};
+use crate::behind::approach;
+use crate::counting::{ended_before, listed_below};
+use crate::forgetting::forget;
+use crate::held::{Asked, near_place};
+use crate::mark::StructureMark;
+use crate::reaching::reach;
+use definition_intervals::{
+    Verdict, bases_decide, finds_give_bases, openings_are_found, verdict, verdict_on,
+};
+use ground_history::History;
 use hk_base::{Key, Memory};
 use std::alloc::Global;
 use std::marker::Model;
-
-/// So many marks are held at most.
-const MOST_MARKS: usize = 512;
 
 /// What verdicts go on from while entries come: what was found of structures at some tags.
 #[derive(Drop)]
@@ -51,17 +49,14 @@ impl LiveVerdicts {
         }
     }
 
-    /// Forgets what rests on tags from which on something may have changed.
-    pub fn forget_from(&mut self, from: Option<u64>)
-        ensures { (g later : Ground) → StandsFor self.old g → AreSameBelow from g later → StandsFor self.new later }
+    /// Forgets what rests on tags from which on something may have changed, and on requests of which something new is known.
+    pub fn forget_from(&mut self, from: Option<u64>, touched: Option<u64>)
+        ensures { (g later : Ground) → StandsFor self.old g → AreSameBelow from g later → AreUnsureSame touched g later → StandsFor self.new later }
     {
-        if let Some(from) = from {
-            let below = count_below(&self.marks, from);
-            self.marks.truncate(below);
-        }
+        forget(&mut self.marks, from, touched);
     }
 
-    /// The verdict on a report of a structure with this tag and payload. It goes on from what was found for an earlier tag.
+    /// The verdict on a report of a structure with this tag and payload. It goes on from what was found for other reports.
     pub fn verdict(
         &mut self,
         history: &History,
@@ -74,100 +69,54 @@ impl LiveVerdicts {
         ensures verdict { IfOk result (λ verdict. verdict ≡ verdicts.verdict history.now.tailoring history.now.history key tag payload.now) }
         ensures stands { StandsFor self.new history.now }
     {
-        // Laws: they say what a basis decides and that bounds rise, and do nothing.
+        // Laws: they say what is found of openings and what a basis decides, and do nothing.
+        openings_are_found();
+        finds_give_bases();
         bases_decide();
-        bounds_rise();
         let tailoring = history.tailoring();
-        let Some(place) = firm_place(&self.marks, history, key, tag) else {
-            return self.verdict_anew(history, key, tag, payload);
-        };
-        let mark = &self.marks[place].mark;
-        if is_near(history, mark, tag) {
-            return verdict_on(self.alloc, tailoring, &mark.basis, tag, payload);
-        }
-        let later = later_mark(self.alloc, history, key, mark, tag)?;
-        let verdict = verdict_on(self.alloc, tailoring, &later.basis, tag, payload)?;
-        self.hold(key, later)?;
-        Ok(verdict)
-    }
-
-    /// The same, from nothing that was found before.
-    fn verdict_anew(
-        &mut self,
-        history: &History,
-        key: Key,
-        tag: u64,
-        payload: &[u8],
-    ) -> Result<Verdict, Memory>
-        requires limit { length payload.now ≤ 2147483648 }
-        requires stands { StandsFor self.old history.now }
-        ensures verdict { IfOk result (λ verdict. verdict ≡ verdicts.verdict history.now.tailoring history.now.history key tag payload.now) }
-        ensures stands { StandsFor self.new history.now }
-    {
-        // A law: it says what a basis decides, and does nothing.
-        bases_decide();
-        let first = first_mark(self.alloc, history, key)?;
-        if !is_firm(history, &first, tag) {
+        let asked = asked_on(history, key, tag);
+        let Some(place) = place_for(self.alloc, &mut self.marks, history, asked)? else {
             return verdict(self.alloc, history, key, tag, payload);
-        }
-        let later = later_mark(self.alloc, history, key, &first, tag)?;
-        let verdict = verdict_on(self.alloc, history.tailoring(), &later.basis, tag, payload)?;
-        self.hold(key, later)?;
-        Ok(verdict)
-    }
-
-    /// Holds one more mark. Where there are too many, the older half is given up.
-    fn hold(&mut self, key: Key, mark: Mark) -> Result<(), Memory>
-        ensures { (g : Ground) → StandsFor self.old g → IsMark g key mark → StandsFor self.new g }
-    {
-        give_up_older(&mut self.marks)?;
-        self.marks.push(StructureMark { key, mark })?;
-        Ok(())
+        };
+        let basis = &self.marks[place].mark.basis;
+        verdict_on(self.alloc, tailoring, basis, tag, payload)
     }
 }
 
-/// Gives up the older half of the marks, where there are as many as are held at most.
-fn give_up_older(held: &mut Vec<StructureMark>) -> Result<(), Memory>
-    ensures { (g : Ground) → StandsFor held.old.items g → StandsFor held.new.items g }
+/// What is asked on reports of a structure with a tag.
+fn asked_on(history: &History, key: Key, tag: u64) -> Asked
+    ensures same { (result.key ≡ key) × (result.tag ≡ tag) }
+    ensures listed { AreListedBelow history.now.history tag result.listed }
+    ensures order { result.past ≤ result.listed }
 {
-    if held.len() < MOST_MARKS {
-        return Ok(());
+    let listed = listed_below(history, tag);
+    Asked {
+        key,
+        tag,
+        listed,
+        past: ended_before(history, 0, listed, tag),
     }
-    let recent = held.split_off(MOST_MARKS / 2)?;
-    *held = recent;
-    Ok(())
 }
 
-/// How many marks there are before the first whose tag isn't below this one.
-fn count_below(held: &[StructureMark], tag: u64) -> usize
-    ensures within { result ≤ length held.now }
-    ensures below { All (λ (x : declared.StructureMark). x.mark.tag < tag) (take result held.now) }
+/// The place of a mark whose basis is that of verdicts on the reports; None where there is none to go on from.
+fn place_for(
+    alloc: Global,
+    held: &mut Vec<StructureMark>,
+    history: &History,
+    asked: Asked,
+) -> Result<Option<usize>, Memory>
+    requires stands { StandsFor held.old.items history.now }
+    requires listed { AreListedBelow history.now.history asked.tag asked.listed }
+    requires order { asked.past ≤ asked.listed }
+    ensures stands { StandsFor held.new.items history.now }
+    ensures near { IfOk result (λ found. IfSome found (IsPlaceOf (λ (m : declared.Mark). IsNear history.now.history asked.key m asked.listed asked.tag × (asked.listed ≤ m.calm)) asked.key held.new.items)) }
 {
-    for place in 0..held.len() {
-        if held[place].mark.tag >= tag {
-            return place;
-        }
-    }
-    held.len()
-}
-
-/// The place of the last mark of a structure from which verdicts on reports with a tag can go on.
-fn firm_place(held: &[StructureMark], history: &History, key: Key, tag: u64) -> Option<usize>
-    ensures { IfSome result (λ place. (place < length held.now) × HoldsAt (λ (x : declared.StructureMark). (key_eq x.key key ≡ true) × (marks.is_firm history.now.history x.mark tag ≡ true)) held.now place) }
-{
-    let mut end = held.len();
-    while end > 0 {
-        end -= 1;
-        let last = &held[end];
-        if is_same(last.key, key) && is_firm(history, &last.mark, tag) {
-            return Some(end);
-        }
-    }
-    None
-}
-
-fn is_same(a: Key, b: Key) -> bool
-    ensures { result ≡ key_eq a b }
-{
-    a == b
+    let place = match near_place(held, history, asked) {
+        Some(place) => place,
+        None => match approach(alloc, held, history, asked)? {
+            Some(place) => place,
+            None => return Ok(None),
+        },
+    };
+    Ok(Some(reach(alloc, held, history, asked, place)?))
 }

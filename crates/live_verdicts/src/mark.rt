@@ -1,14 +1,18 @@
 use definition_intervals::Basis;
 use hk_base::{Items, Key, Structure};
 
-/// What was found of the openings of a structure at a tag.
+/// What was found of openings of a structure, of the states that open below a tag.
 #[derive(Debug, Drop)]
 pub(crate) struct Mark {
     pub tag: u64,
+    /// No state opens from this tag on and below the other.
+    pub opened: u64,
     /// So many requests are known to have ended at the tag.
     pub past: u64,
-    /// So many requests may have been executed below the tag, or have ended.
+    /// It holds of the requests below this number ..
     pub listed: u64,
+    /// .. and of those below each later one up to this, as the requests between leave it as it is.
+    pub calm: u64,
     /// What was found of the openings, each once.
     pub finds: Vec<Option<Items<Option<Structure>>>>,
     /// The first open change of the latest opening.

@@ -1,44 +1,34 @@
-use Rattle.std.proofs.Common.{◌≡◌, List, sym, subst}
-use Rattle.std.specs.Prelude.{IfOk}
+use Rattle.std.proofs.Common.{◌≡◌, ◌≤◌, ℕ, Option, sym, subst}
+use Rattle.std.specs.Prelude.{IfOk, IfSome}
 use Rattle.hk_base.specs.TailoringParts.{TailoringParts}
-use Rattle.definition_intervals.specs.Openings.{Opening, openings}
+use Rattle.definition_intervals.specs.Openings.{openings}
 use Rattle.definition_intervals.specs.Bases.{IsBasis}
 use Rattle.definition_intervals.specs.Verdicts.{verdict_of}
 use Rattle.definition_intervals.specs.declared.answer.Verdict.{Verdict}
-use Rattle.live_verdicts.specs.Marks.{StandsFor}
+use Rattle.live_verdicts.specs.Marks.{IsNear, IsPlaceOf, StandsFor}
+use Rattle.live_verdicts.specs.declared.mark.Mark.{Mark}
 use Rattle.live_verdicts.specs.declared.mark.StructureMark.{StructureMark}
-use Rattle.live_verdicts.proofs.HeldLemmas.{IsHeldFor, held-at, held-mark, near-openings}
+use Rattle.live_verdicts.proofs.HeldLemmas.{place-at, held-mark}
+use Rattle.live_verdicts.proofs.MarkLemmas.{near-basis}
 use Rattle.live_verdicts.proofs.live.LiveVerdicts.verdict.Goals as goal
 
-pub returns-then-is_near-clause-verdict : goal.returns-then-is_near-clause-verdict
-returns-then-is_near-clause-verdict c =
+pub returns-clause-verdict : goal.returns-clause-verdict
+returns-clause-verdict c =
     let g = c.args.history.now in
     let t = g.tailoring in
-    let key = c.args.key in
-    let tag = c.args.tag in
+    let h = g.history in
+    let asked = c.asked_on-asked.result in
+    let held = c.place_for.new.held.items in
     let x = c.index.result.now in
-    let place = c.in-Some.place in
-    let held = c.self.inside.marks.items in
-    let stands = subst (λ (xs : List StructureMark). StandsFor xs g) (sym c.self.view_is) c.requires.stands in
-    let told = subst (λ (xs : List StructureMark). IsHeldFor g.history key tag xs place) c.deref.ensures.value c.in-Some.ensures in
-    let both = held-at g.history key tag held place x told c.index.ensures in
-    let mark = held-mark g key held place x stands told.0 c.index.ensures both.0 in
-    let near = c.is_near.ensures c.if-is_near.true in
-    let same = near-openings c.bounds_rise.ensures g key x.mark tag c.tailoring-tailoring.ensures.grounded both.1 near in
-    let basis = subst (λ (os : List Opening). IsBasis t os x.mark.basis) (sym same) mark.basis in
+    let told = subst (λ (o : Option ℕ). IfSome o (IsPlaceOf (λ (m : Mark). IsNear h asked.key m asked.listed asked.tag × (asked.listed ≤ m.calm)) asked.key held)) c.in-Some.is c.in_ok-place.ensures.near in
+    let both = place-at (λ (m : Mark). IsNear h asked.key m asked.listed asked.tag × (asked.listed ≤ m.calm)) asked.key held c.in-Some.place x told c.index.ensures in
+    let mark = held-mark g asked.key held c.in-Some.place x c.in_ok-place.ensures.stands told.0 c.index.ensures both.0 in
+    let grounded = c.tailoring-tailoring.ensures.grounded in
+    let basis = near-basis c.openings_are_found.ensures c.finds_give_bases.ensures g asked.key x.mark asked.listed asked.tag grounded mark both.1.0 both.1.1 c.asked_on-asked.ensures.listed in
+    let own =
+    subst (λ tag. IsBasis t (openings t h c.args.key tag) x.mark.basis) c.asked_on-asked.ensures.same.1
+    (subst (λ key. IsBasis t (openings t h key asked.tag) x.mark.basis) c.asked_on-asked.ensures.same.0 basis) in
     let tailoring = c.tailoring-tailoring.ensures.tailoring in
-    subst (λ (u : TailoringParts). IfOk c.verdict_on.result (λ (v : Verdict). v ≡ verdict_of u tag c.args.payload.now (openings t g.history key tag))) tailoring
-    (c.verdict_on.ensures.of_openings (openings t g.history key tag) (subst (λ (u : TailoringParts). IsBasis u (openings t g.history key tag) x.mark.basis) (sym tailoring) basis))
-
-pub later_mark-requires-clause-mark : goal.later_mark-requires-clause-mark
-later_mark-requires-clause-mark c =
-    let g = c.args.history.now in
-    let key = c.args.key in
-    let tag = c.args.tag in
-    let x = c.index.result.now in
-    let place = c.in-Some.place in
-    let held = c.self.inside.marks.items in
-    let stands = subst (λ (xs : List StructureMark). StandsFor xs g) (sym c.self.view_is) c.requires.stands in
-    let told = subst (λ (xs : List StructureMark). IsHeldFor g.history key tag xs place) c.deref.ensures.value c.in-Some.ensures in
-    let both = held-at g.history key tag held place x told c.index.ensures in
-    held-mark g key held place x stands told.0 c.index.ensures both.0
+    subst (λ (u : TailoringParts). IfOk c.verdict_on.result (λ (v : Verdict). v ≡ verdict_of u c.args.tag c.args.payload.now (openings t h c.args.key c.args.tag))) tailoring
+    (c.verdict_on.ensures.of_openings (openings t h c.args.key c.args.tag)
+    (subst (λ (u : TailoringParts). IsBasis u (openings t h c.args.key c.args.tag) x.mark.basis) (sym tailoring) own))

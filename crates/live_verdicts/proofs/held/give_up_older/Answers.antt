@@ -2,7 +2,7 @@ use Rattle.std.proofs.Common.{arith, ◌≤◌, List, length, sym, subst}
 use Rattle.live_verdicts.specs.Marks.{StandsFor}
 use Rattle.live_verdicts.specs.declared.mark.StructureMark.{StructureMark}
 use Rattle.live_verdicts.proofs.HeldLemmas.{stands-drop}
-use Rattle.live_verdicts.proofs.live.give_up_older.Goals as goal
+use Rattle.live_verdicts.proofs.held.give_up_older.Goals as goal
 
 pub returns : goal.returns
 returns c =

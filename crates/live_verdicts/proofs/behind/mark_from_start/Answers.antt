@@ -1,0 +1,8 @@
+use Rattle.live_verdicts.proofs.SplitLemmas.{holds-below}
+use Rattle.live_verdicts.proofs.behind.mark_from_start.Goals as goal
+
+pub returns : goal.returns
+returns c =
+    λ near.
+    c.in_ok-later.ensures.mark
+    (holds-below c.args.history.now.history c.in_ok-later.later c.numbers_from-numbers.result.end c.args.asked.listed c.args.asked.tag c.in_ok-later.ensures.past c.numbers_from-numbers.ensures.1 near.holds)

@@ -1,0 +1,45 @@
+//! How many requests may have been executed below a tag, and how many are known to have ended at it.
+ghost use Rattle.std.specs.Prelude.{◌≤◌, length};
+ghost use Rattle.live_verdicts.specs.Marks.{AreListedBelow};
+
+use crate::firm::is_at_most;
+use ground_history::{History, bounds_rise};
+
+/// The number below which requests may have been executed below a tag, by halves.
+pub(crate) fn listed_below(history: &History, tag: u64) -> u64
+    ensures { AreListedBelow history.now.history tag result }
+{
+    // A law: it says that bounds rise, and does nothing.
+    bounds_rise();
+    let _tailoring = history.tailoring();
+    let mut from = 0;
+    let mut to = history.count();
+    while from < to {
+        let middle = from + (to - from) / 2;
+        if history.low(middle) < tag {
+            from = middle + 1;
+        } else {
+            to = middle;
+        }
+    }
+    from
+}
+
+/// The number of the first request, from one on and before another, that isn't known to have ended at a tag.
+pub(crate) fn ended_before(history: &History, from: u64, to: u64, tag: u64) -> u64
+    requires order { from ≤ to }
+    requires within { to ≤ length history.now.history.requests }
+    ensures { result ≤ to }
+{
+    let mut first = from;
+    let mut end = to;
+    while first < end {
+        let middle = first + (end - first) / 2;
+        if is_at_most(history.high(middle), tag) {
+            first = middle + 1;
+        } else {
+            end = middle;
+        }
+    }
+    first
+}

@@ -1,0 +1,61 @@
+//! Which marks stay while entries come.
+ghost use Rattle.std.specs.Prelude.{◌≡◌, ◌≤◌, true, List, All};
+ghost use Rattle.hk_base.specs.declared.types.Key as declared_key;
+ghost use Rattle.ground_history.specs.Ground.{Ground};
+ghost use Rattle.opening_sweeps.specs.Requests.{Start};
+ghost use Rattle.live_verdicts.specs.Changes.{AreSameBelow, AreUnsureSame, IsBelow, IsUpTo};
+ghost use Rattle.live_verdicts.specs.Marks.{IsKept, StandsFor, with_calm, narrowed_to};
+ghost use Rattle.live_verdicts.specs.declared.mark.Mark as declared;
+
+use crate::mark::{Mark, StructureMark};
+
+/// Gives up the marks that rest on tags from which on something may have changed, or on requests that were touched, and narrows the others to the
+/// requests before those.
+pub(crate) fn forget(held: &mut Vec<StructureMark>, from: Option<u64>, touched: Option<u64>)
+    ensures { (g later : Ground) → StandsFor held.old.items g → AreSameBelow from g later → AreUnsureSame touched g later → StandsFor held.new.items later }
+{
+    let mut place = 0;
+    while place < held.len() {
+        if is_kept(&held[place].mark, from, touched) {
+            held[place].mark.calm = narrowed(held[place].mark.calm, touched);
+            place += 1;
+        } else {
+            held.remove(place);
+        }
+    }
+}
+
+/// Whether a mark stays.
+fn is_kept(mark: &Mark, from: Option<u64>, touched: Option<u64>) -> bool
+    ensures { result ≡ true → IsKept mark.now from touched }
+{
+    is_below(mark.tag, from) && is_up_to(mark.listed, touched)
+}
+
+fn is_below(tag: u64, from: Option<u64>) -> bool
+    ensures { result ≡ true → IsBelow tag from }
+{
+    match from {
+        Some(from) => tag < from,
+        None => true,
+    }
+}
+
+fn is_up_to(end: u64, touched: Option<u64>) -> bool
+    ensures { result ≡ true → IsUpTo end touched }
+{
+    match touched {
+        Some(touched) => end <= touched,
+        None => true,
+    }
+}
+
+/// A number, or that of the first request that was touched, if that is less.
+fn narrowed(calm: u64, touched: Option<u64>) -> u64
+    ensures { result ≡ narrowed_to calm touched }
+{
+    match touched {
+        Some(touched) => calm.min(touched),
+        None => calm,
+    }
+}

@@ -1,0 +1,76 @@
+//! The marks that are held.
+ghost use Rattle.std.specs.Prelude.{◌≡◌, ◌<◌, ◌≤◌, true, ℕ, IfOk, IfSome, length};
+ghost use Rattle.hk_base.specs.Parameters.{key_eq};
+ghost use Rattle.ground_history.specs.Ground.{Ground};
+ghost use Rattle.live_verdicts.specs.Marks.{IsMark, IsNear, IsPlaceOf, StandsFor};
+ghost use Rattle.live_verdicts.specs.declared.mark.Mark as declared;
+
+use crate::firm::is_near;
+use crate::mark::{Mark, StructureMark};
+use ground_history::History;
+use hk_base::{Key, Memory};
+
+/// So many marks are held at most.
+const MOST_MARKS: usize = 512;
+
+/// What a verdict is asked on: reports of a structure with a tag.
+#[derive(Clone, Copy, Debug, Drop)]
+pub(crate) struct Asked {
+    pub key: Key,
+    pub tag: u64,
+    /// So many requests may have been executed below the tag.
+    pub listed: u64,
+    /// So many of them are known to have ended at the tag.
+    pub past: u64,
+}
+
+/// The place of the last mark that is near to the reports.
+pub(crate) fn near_place(held: &[StructureMark], history: &History, asked: Asked) -> Option<usize>
+    ensures { IfSome result (IsPlaceOf (λ (m : declared.Mark). IsNear history.now.history asked.key m asked.listed asked.tag) asked.key held.now) }
+{
+    let mut end = held.len();
+    while end > 0 {
+        end -= 1;
+        let last = &held[end];
+        if is_same(last.key, asked.key) && is_near_to(history, &last.mark, asked) {
+            return Some(end);
+        }
+    }
+    None
+}
+
+/// Whether a mark is near to the reports.
+pub(crate) fn is_near_to(history: &History, mark: &Mark, asked: Asked) -> bool
+    ensures { result ≡ true → IsNear history.now.history asked.key mark.now asked.listed asked.tag }
+{
+    mark.past == asked.past && is_near(history, asked.key, mark, asked.listed, asked.tag)
+}
+
+/// Holds one more mark, and gives its place. Where there are too many, the older half is given up.
+pub(crate) fn hold(held: &mut Vec<StructureMark>, key: Key, mark: Mark) -> Result<usize, Memory>
+    ensures stands { (g : Ground) → StandsFor held.old.items g → IsMark g key mark → StandsFor held.new.items g }
+    ensures place { IfOk result (IsPlaceOf (λ (m : declared.Mark). m ≡ mark) key held.new.items) }
+{
+    give_up_older(held)?;
+    let place = held.len();
+    held.push(StructureMark { key, mark })?;
+    Ok(place)
+}
+
+/// Gives up the older half of the marks, where there are as many as are held at most.
+fn give_up_older(held: &mut Vec<StructureMark>) -> Result<(), Memory>
+    ensures { (g : Ground) → StandsFor held.old.items g → StandsFor held.new.items g }
+{
+    if held.len() < MOST_MARKS {
+        return Ok(());
+    }
+    let recent = held.split_off(MOST_MARKS / 2)?;
+    *held = recent;
+    Ok(())
+}
+
+pub(crate) fn is_same(a: Key, b: Key) -> bool
+    ensures { result ≡ key_eq a b }
+{
+    a == b
+}

@@ -1,0 +1,52 @@
+//! Requests as they are told before reports can tell that they ended.
+ghost use Rattle.std.specs.Prelude.{◌≡◌, ◌<◌, ◌+◌, Some, IfOk, All, length, slice_get};
+ghost use Rattle.ground_history.specs.Histories.{Sent};
+ghost use Rattle.ground_history.specs.Ground.{IsGrounded};
+ghost use Rattle.definition_intervals.specs.Findings.{IsFormedCandidate};
+ghost use Rattle.live_verdicts.specs.Changes as changes;
+
+use definition_intervals::{Candidate, changes_are_formed};
+use ground_history::History;
+use hk_base::{Key, Memory};
+use pus_messages::changes_on;
+use std::alloc::Global;
+
+/// The request with this number, by itself, if it may have changed the structure.
+pub(crate) fn next_unsure<'a>(
+    alloc: Global,
+    history: &'a History,
+    key: Key,
+    number: u64,
+) -> Result<Vec<Candidate<'a>>, Memory>
+    requires { number < length history.now.history.requests }
+    ensures requests { IfOk result (λ found. found.items ≡ changes.unsures history.now.history key number (number + 1)) }
+    ensures formed { IfOk result (λ found. All (IsFormedCandidate history.now.tailoring) found.items) }
+{
+    // A law: it says that changes are of the grammar, and does nothing.
+    changes_are_formed();
+    let _tailoring = history.tailoring();
+    let mut requests = Vec::new(alloc);
+    if let Some(request) = unsure(history, key, number) {
+        requests.push(request)?;
+    }
+    Ok(requests)
+}
+
+/// The request with this number, if it may have changed the structure.
+fn unsure(history: &History, key: Key, number: u64) -> Option<Candidate<'_>>
+    requires grounded { IsGrounded history.now }
+    requires sent { number < length history.now.history.requests }
+    ensures { (sent : Sent) → slice_get history.now.history.requests number ≡ Some sent → result ≡ changes.unsure history.now.history key (number, sent) }
+{
+    if history.barred(number) {
+        return None;
+    }
+    let request = history.request(number)?;
+    let (instruction, change) = changes_on(request, key)?;
+    Some(Candidate {
+        number,
+        change,
+        certain: false,
+        outcome: history.outcome(number, instruction),
+    })
+}

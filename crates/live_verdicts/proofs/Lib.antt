@@ -6,3 +6,4 @@ pub mod FindLemmas
 pub mod MarkLemmas
 pub mod AmongLemmas
 pub mod HeldLemmas
+pub mod TouchLemmas

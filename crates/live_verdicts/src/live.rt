@@ -6,7 +6,7 @@ ghost use Rattle.hk_base.specs.Parameters.{key_eq};
 ghost use Rattle.ground_history.specs.Histories.{new_history};
 ghost use Rattle.ground_history.specs.Ground.{Ground, IsGrounded};
 ghost use Rattle.definition_intervals.specs.Verdicts as verdicts;
-ghost use Rattle.live_verdicts.specs.Changes.{AreSameBelow};
+ghost use Rattle.live_verdicts.specs.Changes.{AreSameBelow, AreUnsureSame};
 ghost use Rattle.live_verdicts.specs.Marks as marks;
 ghost use Rattle.live_verdicts.specs.Marks.{IsMark, StandsFor};
 ghost use Rattle.live_verdicts.specs.declared.mark.StructureMark as declared;
@@ -51,9 +51,9 @@ impl LiveVerdicts {
         }
     }
 
-    /// Forgets what rests on tags from which on something may have changed.
-    pub fn forget_from(&mut self, from: Option<u64>)
-        ensures { (g later : Ground) → StandsFor self.old g → AreSameBelow from g later → StandsFor self.new later }
+    /// Forgets what rests on tags from which on something may have changed. What is told besides is the first request that was touched.
+    pub fn forget_from(&mut self, from: Option<u64>, touched: Option<u64>)
+        ensures { (g later : Ground) → StandsFor self.old g → AreSameBelow from g later → AreUnsureSame touched g later → StandsFor self.new later }
     {
         if let Some(from) = from {
             let below = count_below(&self.marks, from);

@@ -8,7 +8,7 @@ use Rattle.live_verdicts.proofs.live.LiveVerdicts.forget_from.Goals as goal
 
 pub returns-in-Some : goal.returns-in-Some
 returns-in-Some c =
-    λ g later stands same.
+    λ g later stands same unsure.
     let held = c.self.inside.marks.items in
     let n = c.count_below-below.result in
     let within : n ≤ length held = subst (λ (xs : List StructureMark). n ≤ length xs) c.deref.ensures.value c.count_below-below.ensures.within in
@@ -19,4 +19,4 @@ returns-in-Some c =
     (subst (λ (xs : List StructureMark). StandsFor xs g) (sym c.self.view_is) stands))
 
 pub returns-in_default : goal.returns-in_default
-returns-in_default c = λ g later stands same. stands-none c.args.from g later c.args.self.now c.in_default.not-Some same stands
+returns-in_default c = λ g later stands same unsure. stands-none c.args.from g later c.args.self.now c.in_default.not-Some same stands

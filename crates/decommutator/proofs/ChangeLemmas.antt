@@ -1,5 +1,5 @@
 -- What is known by what an entry brought.
-use Rattle.std.proofs.Common.{◌≡◌, ℕ, refl, sym, ◌∙◌, ap, subst, List, Bool, true, false, Option, Some, None, Result, Ok, Err}
+use Rattle.std.proofs.Common.{◌≡◌, ℕ, refl, sym, ◌∙◌, ap, List, Bool, true, false, Some, None, Result, Ok, Err}
 use Rattle.std.proofs.lemmas.Bool.{true≢false}
 use Rattle.std.proofs.lemmas.Option.{none-some, same_Some}
 use Rattle.pus_messages.specs.Messages.{protocol}
@@ -13,8 +13,6 @@ use Rattle.ground_history.specs.declared.answer.SentFault.{SentFault}
 use Rattle.session_record.specs.declared.entry.Entry.{Entry}
 use Rattle.session_record.specs.declared.entry.Entry.TheVariants.{Sent, Got, Line}
 use Rattle.session_texts.specs.Sessions.{known_with}
-use Rattle.live_verdicts.specs.Changes.{AreSameBelow}
-use Rattle.live_verdicts.proofs.SameLemmas.{same-all}
 use Rattle.decommutator.specs.Standing.{ground_after}
 use Rattle.decommutator.specs.Due.{came_sent, came_got, came_of, new_tag}
 use Rattle.decommutator.specs.declared.changed.Came.{Came}
@@ -50,42 +48,43 @@ nothing-known g (Got packet) one two = go ((protocol g.tailoring).reception pack
     go (readable r) e = report r (kind_by_reception g.history packet (readable r)) e
 nothing-known g (Line text) one two = refl
 
-pub same-nothing : (g now : Ground) (e : Entry) → came.Nothing ≡ came_of g e → now ≡ ground_after g e (Ok tt) → AreSameBelow None g now
-same-nothing g now e came known =
-    let is : now ≡ g = known ∙ ap (with_history g) (nothing-known g e (ap new_tag (sym came)) (ap is_request (sym came))) in
-    subst (AreSameBelow None g) (sym is) (same-all g)
+-- Nothing came.
+pub nothing-came : (g now : Ground) (e : Entry) → came.Nothing ≡ came_of g e → now ≡ ground_after g e (Ok tt) → now ≡ g
+nothing-came g now e came known = known ∙ ap (with_history g) (nothing-known g e (ap new_tag (sym came)) (ap is_request (sym came)))
 
-pub same-request : (g now : Ground) (from : Option ℕ) (e : Entry) → came.Request ≡ came_of g e → now ≡ ground_after g e (Ok tt)
-    → ((x : Ground) (packet : List ℕ) → now ≡ with_history x (with_sent (protocol x.tailoring) x.history packet) → AreSameBelow from x now) → AreSameBelow from g now
-same-request g now from (Sent packet) came known law = go (sent_answer (protocol g.tailoring) g.history packet) (ap is_request came) known
+-- A request was sent.
+pub request-came : (g now : Ground) (e : Entry) → came.Request ≡ came_of g e → now ≡ ground_after g e (Ok tt)
+    → (packet : List ℕ) × (now ≡ with_history g (with_sent (protocol g.tailoring) g.history packet))
+request-came g now (Sent packet) came known = (packet, go (sent_answer (protocol g.tailoring) g.history packet) (ap is_request came) known)
   where
-    go : (r : Result Bool SentFault) → true ≡ is_request (came_sent r) → now ≡ with_history g (history_with_sent (protocol g.tailoring) g.history packet r) → AreSameBelow from g now
-    go (Ok true) e is = law g packet is
+    go : (r : Result Bool SentFault) → true ≡ is_request (came_sent r) → now ≡ with_history g (history_with_sent (protocol g.tailoring) g.history packet r)
+        → now ≡ with_history g (with_sent (protocol g.tailoring) g.history packet)
+    go (Ok true) e is = is
     go (Ok false) e is = absurd (true≢false e)
     go (Err fault) e is = absurd (true≢false e)
-same-request g now from (Got packet) came known law = go (got_kind (protocol g.tailoring) g.history packet) (ap is_request came)
+request-came g now (Got packet) came known = absurd (go (got_kind (protocol g.tailoring) g.history packet) (ap is_request came))
   where
-    go : (kind : GotKind) → true ≡ is_request (came_got kind) → AreSameBelow from g now
-    go (became.Kept tag) e = absurd (true≢false e)
-    go (became.Repeat tag) e = absurd (true≢false e)
-    go (became.Conflict tag) e = absurd (true≢false e)
-    go (became.Foreign apid) e = absurd (true≢false e)
-    go (became.Skipped service subtype) e = absurd (true≢false e)
-    go became.Unread e = absurd (true≢false e)
-    go (became.Stray id) e = absurd (true≢false e)
-same-request g now from (Line text) came known law = absurd (true≢false (ap is_request came))
+    go : (kind : GotKind) → true ≡ is_request (came_got kind) → ⊥
+    go (became.Kept tag) e = true≢false e
+    go (became.Repeat tag) e = true≢false e
+    go (became.Conflict tag) e = true≢false e
+    go (became.Foreign apid) e = true≢false e
+    go (became.Skipped service subtype) e = true≢false e
+    go became.Unread e = true≢false e
+    go (became.Stray id) e = true≢false e
+request-came g now (Line text) came known = absurd (true≢false (ap is_request came))
 
-pub same-kept : (g now : Ground) (from : Option ℕ) (tag : ℕ) (e : Entry) → came.Kept tag ≡ came_of g e → now ≡ ground_after g e (Ok tt)
-    → ((packet : List ℕ) → got_kind (protocol g.tailoring) g.history packet ≡ became.Kept tag
-    → now ≡ with_history g (history_with_got g.history packet ((protocol g.tailoring).reception packet)) → AreSameBelow from g now)
-    → AreSameBelow from g now
-same-kept g now from tag (Sent packet) came known law = go (sent_answer (protocol g.tailoring) g.history packet) (ap new_tag came)
+-- A packet was kept.
+pub kept-came : (g now : Ground) (tag : ℕ) (e : Entry) → came.Kept tag ≡ came_of g e → now ≡ ground_after g e (Ok tt)
+    → (packet : List ℕ) × (got_kind (protocol g.tailoring) g.history packet ≡ became.Kept tag)
+    × (now ≡ with_history g (history_with_got g.history packet ((protocol g.tailoring).reception packet)))
+kept-came g now tag (Sent packet) came known = absurd (go (sent_answer (protocol g.tailoring) g.history packet) (ap new_tag came))
   where
-    go : (r : Result Bool SentFault) → Some tag ≡ new_tag (came_sent r) → AreSameBelow from g now
-    go (Ok true) e = absurd (none-some tag (sym e))
-    go (Ok false) e = absurd (none-some tag (sym e))
-    go (Err fault) e = absurd (none-some tag (sym e))
-same-kept g now from tag (Got packet) came known law = law packet (go (got_kind (protocol g.tailoring) g.history packet) (ap new_tag came)) known
+    go : (r : Result Bool SentFault) → Some tag ≡ new_tag (came_sent r) → ⊥
+    go (Ok true) e = none-some tag (sym e)
+    go (Ok false) e = none-some tag (sym e)
+    go (Err fault) e = none-some tag (sym e)
+kept-came g now tag (Got packet) came known = (packet, go (got_kind (protocol g.tailoring) g.history packet) (ap new_tag came), known)
   where
     go : (kind : GotKind) → Some tag ≡ new_tag (came_got kind) → kind ≡ became.Kept tag
     go (became.Kept other) e = ap (λ n. became.Kept n) (same_Some other tag (sym e))
@@ -95,4 +94,4 @@ same-kept g now from tag (Got packet) came known law = law packet (go (got_kind 
     go (became.Skipped service subtype) e = absurd (none-some tag (sym e))
     go became.Unread e = absurd (none-some tag (sym e))
     go (became.Stray id) e = absurd (none-some tag (sym e))
-same-kept g now from tag (Line text) came known law = absurd (none-some tag (sym (ap new_tag came)))
+kept-came g now tag (Line text) came known = absurd (none-some tag (sym (ap new_tag came)))

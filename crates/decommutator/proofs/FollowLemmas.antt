@@ -44,7 +44,7 @@ step-of live tags came now has =
 -- the tags rise with the new one
 pub come-rise : (live : Live) (tags : List ℕ) (came : Came) (now : Ground) → HasCome live tags came now → AreRising (with_new (new_tag came) tags)
 come-rise live tags came now has =
-    all-rising has.before now tags (record { from = None; new = new_tag came }) has.waiting has.grounded.tags has.rising_now (step-of live tags came now has)
+    all-rising has.before now tags (record { from = None; touched = None; new = new_tag came }) has.waiting has.grounded.tags has.rising_now (step-of live tags came now has)
 
 -- where nothing has changed they wait on
 pub come-same : (live : Live) (tags : List ℕ) (came : Came) (now : Ground) (changed : Changed) → HasCome live tags came now → changed.new ≡ new_tag came
@@ -63,7 +63,7 @@ stands g c n tags = record { standing = record { tailoring = g.tailoring; histor
 module _ (g now : Ground) (tags : List ℕ) (came : Came) (e : Entry) (are : AreWaiting tags g) (rising : HaveRisingTags g.history.kept) (rising_now : HaveRisingTags now.history.kept)
     (brought : came ≡ came_of g e) (known : now ≡ ground_after g e (Ok tt)) where
   abbrev changed : Changed
-  changed = record { from = None; new = new_tag came }
+  changed = record { from = None; touched = None; new = new_tag came }
 
   step : Step g.history.kept now.history.kept (new_tag came)
   step =

@@ -117,10 +117,6 @@ last_text g tag = last_block g (report_from g tag)
 abbrev pub waiting_packets : List ℕ → Ground → List Kept
 waiting_packets tags g = filter (has_tag tags) g.history.kept
 
--- something may have changed from a tag on, if there is one, and a packet was kept
-abbrev pub changes : Option ℕ → ℕ → Changed
-changes from new = record { from = from; new = Some new }
-
 -- whether a parameter report is decided
 abbrev pub is_decided : Ground → Key → ℕ → List ℕ → Bool
 is_decided g key tag payload = is_decision (verdict g.tailoring g.history key tag payload)

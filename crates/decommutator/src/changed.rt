@@ -1,14 +1,14 @@
 //! What an entry brings, and what it may have changed.
-ghost use Rattle.std.specs.Prelude.{◌≡◌, ℕ, true, Ok, Some};
+ghost use Rattle.std.specs.Prelude.{◌≡◌, ◌&&◌, ℕ, not, true, Ok, Some};
 ghost use Rattle.ground_history.specs.Ground.{Ground, IsGrounded};
 ghost use Rattle.session_record.specs.declared.entry.Entry.{Entry};
-ghost use Rattle.live_verdicts.specs.Changes.{IsBelow, AreSameBelow};
+ghost use Rattle.live_verdicts.specs.Changes.{IsBelow, AreSameBelow, AreUnsureSame};
 ghost use Rattle.decommutator.specs.Standing.{ground_after};
 ghost use Rattle.decommutator.specs.Due as due;
 ghost use Rattle.decommutator.specs.Due.{came_of, new_tag};
 
 use ground_history::{GotKind, History};
-use live_verdicts::{changed_by_kept, changed_by_sent};
+use live_verdicts::{changed_by_kept, changed_by_sent, sent_touches_none, touched_by_kept};
 
 /// What an entry brought to what is known.
 #[derive(Clone, Copy, Drop)]
@@ -19,12 +19,14 @@ pub(crate) enum Came {
     Kept(u64),
 }
 
-/// Which reports may have another verdict than before.
+/// What an entry may have changed.
 #[derive(Clone, Copy, Drop)]
 pub(crate) struct Changed {
-    /// Those from this tag on.
+    /// Reports from this tag on may have another verdict than before.
     pub(crate) from: Option<u64>,
-    /// The one that was kept.
+    /// The first request of which something new is known.
+    pub(crate) touched: Option<u64>,
+    /// The tag of the report that was kept.
     pub(crate) new: Option<u64>,
 }
 
@@ -58,9 +60,23 @@ fn changed_from(history: &History, came: Came) -> Option<u64>
     }
 }
 
-/// Which reports may have another verdict than before.
+/// The first request of which something new is known.
+fn touched_by(history: &History, came: Came) -> Option<u64>
+    ensures { (g : Ground) (e : Entry) → IsGrounded g → came ≡ came_of g e → history.now ≡ ground_after g e (Ok tt) → AreUnsureSame result g history.now }
+{
+    // A law: it says that a request that is sent touches none before it, and does nothing.
+    sent_touches_none();
+    match came {
+        Came::Nothing => None,
+        Came::Request => None,
+        Came::Kept(tag) => touched_by_kept(history, tag),
+    }
+}
+
+/// What an entry may have changed.
 pub(crate) fn changes_by(history: &History, came: Came) -> Changed
     ensures same { (g : Ground) (e : Entry) → IsGrounded g → came ≡ came_of g e → history.now ≡ ground_after g e (Ok tt) → AreSameBelow result.from g history.now }
+    ensures unsure { (g : Ground) (e : Entry) → IsGrounded g → came ≡ came_of g e → history.now ≡ ground_after g e (Ok tt) → AreUnsureSame result.touched g history.now }
     ensures new { result.new ≡ new_tag came }
 {
     let new = match came {
@@ -69,6 +85,7 @@ pub(crate) fn changes_by(history: &History, came: Came) -> Changed
     };
     Changed {
         from: changed_from(history, came),
+        touched: touched_by(history, came),
         new,
     }
 }
@@ -111,7 +128,7 @@ fn is_new(new: Option<u64>, tag: u64) -> bool
 }
 
 fn least(from: Option<u64>, new: u64) -> u64
-    ensures { (tag : ℕ) → IsBelow tag (Some result) → due.is_same (due.changes from new) tag ≡ true }
+    ensures { (tag : ℕ) → IsBelow tag (Some result) → (due.is_below from tag && not (due.is_new (Some new) tag)) ≡ true }
 {
     match from {
         Some(from) => from.min(new),

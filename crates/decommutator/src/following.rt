@@ -39,7 +39,7 @@ pub(crate) fn go_on<K: Sink>(
     ensures stands { OnOk result (StandsFor live.new history.now) }
 {
     let changed = changes_by(history, came);
-    live.forget_from(changed.from);
+    live.forget_from(changed.from, changed.touched);
     add_new(waiting, changed.new)?;
     write_due(alloc, live, history, changed, waiting, sink)
 }

@@ -8,3 +8,4 @@ pub mod MarkLemmas
 pub mod GrowLemmas
 pub mod HeldLemmas
 pub mod PlaceLemmas
+pub mod TouchLemmas

@@ -1,9 +1,10 @@
 -- What an entry leaves as it was.
-use Rattle.std.specs.Prelude.{◌≡◌, ⊤, ℕ, ◌<◌, ◌≤◌, ◌⊎◌, List, length, take, drop, filter_map, Bool, true, false, not, Option, Some, None, option_map, option_and_then, nat_lt, if◌then◌else◌}
-use Rattle.std.specs.Option.{option_map_or}
+use Rattle.std.specs.Prelude.{◌≡◌, ⊤, ℕ, ◌<◌, ◌≤◌, ◌⊎◌, List, length, filter_map, take, drop, Bool, true, false, not, Option, Some, None, option_map, option_and_then, nat_lt, if◌then◌else◌}
 use Rattle.std.specs.List.{enumerate_from}
+use Rattle.std.specs.Option.{option_map_or}
 use Rattle.hk_base.specs.declared.types.Key.{Key}
 use Rattle.st01_reports.specs.declared.verification.Verification.{Verification}
+use Rattle.st01_reports.specs.declared.verification.Verification.TheVariants as verification
 use Rattle.pus_messages.specs.Changes.{change_by}
 use Rattle.ground_history.specs.Histories.{Sent, Kept, History, tag_of, insert_kept}
 use Rattle.ground_history.specs.Evidence.{high, is_barred, outcome}
@@ -48,14 +49,21 @@ pub record IsLastBefore (later : History) (j : ℕ) (v : Verification) (tag m : 
   pub earlier : m < j
   pub ended : (place_after j v ≡ None) ⊎ (is_under (high later m) tag ≡ true)
 
+-- whether a verification report tells that its request was accepted, and neither that it is barred nor what came of its instructions
+abbrev pub tells_acceptance : Verification → Bool
+tells_acceptance (verification.Accepted id) = true
+tells_acceptance _ = false
+
 -- a request that isn't barred may have changed a structure: as it is told before reports can tell that it ended
 abbrev pub unsure : History → Key → ℕ × Sent → Option Candidate
 unsure h key numbered =
     let k = numbered.0 in
     if not (is_barred h k)
-    then option_map (λ c. record { number = k; change = c.1; certain = false; outcome = outcome h k c.0 }) (option_and_then (change_by key) numbered.1.request)
+    then option_map (λ c. record { number = k; change = c.1; certain = false; outcome = outcome h k c.0 })
+    (option_and_then (change_by key) numbered.1.request)
     else None
 
+-- the requests with numbers from one on and below another that may have changed a structure, as they are told before reports can tell that they ended
 abbrev pub unsures : History → Key → ℕ → ℕ → List Candidate
 unsures h key first end = filter_map (unsure h key) (drop first (take end (enumerate_from 0 h.requests)))
 

@@ -14,7 +14,9 @@ mod later;
 mod live;
 mod mark;
 mod reaching;
+mod touched;
 mod unsure;
 
 pub use changes::{changed_by_kept, changed_by_sent};
 pub use live::LiveVerdicts;
+pub use touched::{sent_touches_none, touched_by_kept};

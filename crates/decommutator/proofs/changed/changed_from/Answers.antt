@@ -1,13 +1,18 @@
-use Rattle.std.proofs.Common.{sym, ◌∙◌}
-use Rattle.decommutator.proofs.ChangeLemmas.{same-nothing, same-request, same-kept}
+use Rattle.std.proofs.Common.{sym, subst, None, ◌∙◌}
+use Rattle.live_verdicts.specs.Changes.{AreSameBelow}
+use Rattle.live_verdicts.proofs.SameLemmas.{same-all}
+use Rattle.decommutator.proofs.ChangeLemmas.{nothing-came, request-came, kept-came}
 use Rattle.decommutator.proofs.changed.changed_from.Goals as goal
 
 pub returns-in-Nothing : goal.returns-in-Nothing
-returns-in-Nothing c = λ g e grounded came known. same-nothing g c.args.history.now e (sym c.in-Nothing.is ∙ came) known
+returns-in-Nothing c = λ g e grounded came known. subst (AreSameBelow None g) (sym (nothing-came g c.args.history.now e (sym c.in-Nothing.is ∙ came) known)) (same-all g)
 
 pub returns-in-Request : goal.returns-in-Request
-returns-in-Request c = λ g e grounded came known. same-request g c.args.history.now c.changed_by_sent.result e (sym c.in-Request.is ∙ came) known c.changed_by_sent.ensures
+returns-in-Request c = λ g e grounded came known.
+    let sent = request-came g c.args.history.now e (sym c.in-Request.is ∙ came) known in
+    c.changed_by_sent.ensures g sent.0 sent.1
 
 pub returns-in-Kept : goal.returns-in-Kept
 returns-in-Kept c = λ g e grounded came known.
-    same-kept g c.args.history.now c.changed_by_kept.result c.in-Kept.tag e (sym c.in-Kept.is ∙ came) known (λ packet. c.changed_by_kept.ensures g packet grounded)
+    let got = kept-came g c.args.history.now c.in-Kept.tag e (sym c.in-Kept.is ∙ came) known in
+    c.changed_by_kept.ensures g got.0 grounded got.1 got.2

@@ -36,3 +36,4 @@ pub write_due-requires-clause-stands : goal.write_due-requires-clause-stands
 write_due-requires-clause-stands g c =
     let has = c.requires in
     c.forget_from.ensures has.before c.args.history.now has.stands (c.changes_by-changed.ensures.same has.before has.entry has.grounded has.brought has.known)
+    (c.changes_by-changed.ensures.unsure has.before has.entry has.grounded has.brought has.known)

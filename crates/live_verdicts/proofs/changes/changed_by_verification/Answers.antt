@@ -1,4 +1,4 @@
-use Rattle.std.proofs.Common.{arith, ◌<◌, ◌≤◌, ◌+◌, ◌∙◌, sym, length}
+use Rattle.std.proofs.Common.{arith, ◌<◌, ◌∙◌, sym, length}
 use Rattle.live_verdicts.proofs.KeptLemmas.{verification-kept, first-kept}
 use Rattle.live_verdicts.proofs.changes.changed_by_verification.Goals as goal
 

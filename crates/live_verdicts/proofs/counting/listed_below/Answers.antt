@@ -1,4 +1,4 @@
-use Rattle.std.proofs.Common.{arith, ◌+◌, ◌-◌, ◌/◌, ◌<◌, ◌≤◌, length, subst, ℕ}
+use Rattle.std.proofs.Common.{arith, ◌+◌, ◌-◌, ◌/◌, ◌<◌, ◌≤◌, subst}
 use Rattle.live_verdicts.proofs.SplitLemmas.{have-begun, are-late}
 use Rattle.live_verdicts.proofs.counting.listed_below.Goals as goal
 use Rattle.std.proofs.Common.{refl}

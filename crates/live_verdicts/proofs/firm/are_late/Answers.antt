@@ -1,4 +1,4 @@
-use Rattle.std.proofs.Common.{◌≡◌, ◌≤◌, subst}
+use Rattle.std.proofs.Common.{◌≤◌, subst}
 use Rattle.std.proofs.lemmas.Bool.{leb-true}
 use Rattle.live_verdicts.proofs.SplitLemmas.{are-late}
 use Rattle.live_verdicts.proofs.firm.are_late.Goals as goal

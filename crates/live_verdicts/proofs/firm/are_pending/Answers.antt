@@ -1,4 +1,4 @@
-use Rattle.std.proofs.Common.{◌≡◌, ◌∙◌, sym, ap, false}
+use Rattle.std.proofs.Common.{◌∙◌, sym, ap}
 use Rattle.definition_intervals.specs.Openings.{is_at_most}
 use Rattle.live_verdicts.proofs.SplitLemmas.{not_true, are-pending}
 use Rattle.live_verdicts.proofs.firm.are_pending.Goals as goal

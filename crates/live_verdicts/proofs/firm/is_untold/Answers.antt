@@ -1,4 +1,4 @@
-use Rattle.std.proofs.Common.{◌≡◌, ◌<◌, subst, inl}
+use Rattle.std.proofs.Common.{◌<◌, subst, inl}
 use Rattle.std.proofs.lemmas.Bool.{ltb-true}
 use Rattle.live_verdicts.proofs.MarkLemmas.{untold-same}
 use Rattle.live_verdicts.proofs.firm.is_untold.Goals as goal

@@ -1,4 +1,4 @@
-use Rattle.std.proofs.Common.{arith, ◌≡◌, ◌∙◌, ◌+◌, ◌<◌, ◌≤◌, length, sym, ap, subst}
+use Rattle.std.proofs.Common.{arith, ◌≡◌, ◌∙◌, ◌<◌, length, sym, ap, subst}
 use Rattle.live_verdicts.specs.Marks.{IsKept, narrowed_to}
 use Rattle.live_verdicts.specs.declared.mark.StructureMark.{StructureMark}
 use Rattle.live_verdicts.proofs.GrowLemmas.{all-taken}

@@ -1,4 +1,4 @@
-use Rattle.std.proofs.Common.{arith, ◌≡◌, ◌∙◌, ◌<◌, ◌≤◌, ◌+◌, ap, length, List, sym, subst, true}
+use Rattle.std.proofs.Common.{arith, ◌≡◌, ◌∙◌, ◌<◌, ◌≤◌, ◌+◌, length, List, subst}
 use Rattle.std.specs.List.{All}
 use Rattle.hk_base.specs.TailoringParts.{TailoringParts}
 use Rattle.definition_intervals.specs.Openings.{Candidate}

@@ -1,4 +1,4 @@
-use Rattle.std.proofs.Common.{◌≤◌, List}
+use Rattle.std.proofs.Common.{List}
 use Rattle.opening_sweeps.specs.Requests.{Start}
 use Rattle.live_verdicts.specs.Marks.{IsMarkOf, with_calm}
 use Rattle.live_verdicts.proofs.growing.calm_until.Given as goal

@@ -1,5 +1,4 @@
-use Rattle.std.proofs.Common.{arith, ◌<◌, length, sym, subst, List, Option}
-use Rattle.std.specs.List.{All}
+use Rattle.std.proofs.Common.{arith, ◌<◌, length, List, Option}
 use Rattle.hk_base.specs.declared.types.Structure.{Structure}
 use Rattle.definition_intervals.specs.Founds.{AreSameFound, found_after}
 use Rattle.live_verdicts.proofs.FindLemmas.{same-after}

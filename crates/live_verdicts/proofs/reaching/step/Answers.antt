@@ -1,6 +1,5 @@
-use Rattle.std.proofs.Common.{arith, ◌≡◌, ◌∙◌, ◌<◌, ◌≤◌, length, sym, ap, subst, get_or, List, Result}
-use Rattle.std.specs.Prelude.{IfOk}
-use Rattle.live_verdicts.specs.Marks.{IsMark, IsNear, IsPlaceOf, StandsFor, calm_at}
+use Rattle.std.proofs.Common.{arith, ◌≡◌, ◌∙◌, sym, subst}
+use Rattle.live_verdicts.specs.Marks.{IsNear, calm_at}
 use Rattle.live_verdicts.specs.declared.mark.Mark.{Mark}
 use Rattle.live_verdicts.specs.declared.mark.StructureMark.{StructureMark}
 use Rattle.live_verdicts.proofs.HeldLemmas.{place-at, held-mark}

@@ -5,7 +5,7 @@ use Rattle.definition_intervals.specs.Openings.{openings}
 use Rattle.definition_intervals.specs.Bases.{IsBasis}
 use Rattle.definition_intervals.specs.Verdicts.{verdict_of}
 use Rattle.definition_intervals.specs.declared.answer.Verdict.{Verdict}
-use Rattle.live_verdicts.specs.Marks.{IsNear, IsPlaceOf, StandsFor}
+use Rattle.live_verdicts.specs.Marks.{AreListedBelow, IsNear, IsPlaceOf, StandsFor}
 use Rattle.live_verdicts.specs.declared.mark.Mark.{Mark}
 use Rattle.live_verdicts.specs.declared.mark.StructureMark.{StructureMark}
 use Rattle.live_verdicts.proofs.HeldLemmas.{place-at, held-mark}
@@ -24,7 +24,8 @@ returns-clause-verdict c =
     let both = place-at (λ (m : Mark). IsNear h asked.key m asked.listed asked.tag × (asked.listed ≤ m.calm)) asked.key held c.in-Some.place x told c.index.ensures in
     let mark = held-mark g asked.key held c.in-Some.place x c.in_ok-place.ensures.stands told.0 c.index.ensures both.0 in
     let grounded = c.tailoring-tailoring.ensures.grounded in
-    let basis = near-basis c.openings_are_found.ensures c.finds_give_bases.ensures g asked.key x.mark asked.listed asked.tag grounded mark both.1.0 both.1.1 c.asked_on-asked.ensures.listed in
+    let basis = near-basis c.openings_are_found.ensures c.finds_give_bases.ensures g asked.key x.mark asked.listed asked.tag grounded mark both.1.0 both.1.1
+    (subst (λ tag. AreListedBelow h tag asked.listed) (sym c.asked_on-asked.ensures.same.1) c.asked_on-asked.ensures.listed) in
     let own =
     subst (λ tag. IsBasis t (openings t h c.args.key tag) x.mark.basis) c.asked_on-asked.ensures.same.1
     (subst (λ key. IsBasis t (openings t h key asked.tag) x.mark.basis) c.asked_on-asked.ensures.same.0 basis) in

@@ -7,17 +7,17 @@ use Rattle.definition_intervals.specs.Openings.{Candidate}
 use Rattle.definition_intervals.specs.Founds.{found_after_all, AreSameFound, SameIsFound}
 use Rattle.opening_sweeps.proofs.FoldLemmas.{same-refl, same-sym, same-trans, after_all-same}
 use Rattle.opening_sweeps.proofs.BasisLemmas.{AreCovered, in-map, map-in}
-use Rattle.live_verdicts.specs.Marks.{HasSame, AreAlike}
+use Rattle.live_verdicts.specs.Marks.{HasSame, AreAlike, AreKnown}
 
 abbrev Find : Type 0
 Find = Option (List (Option Structure))
 
-has-in : (gs : List Find) (f : Find) → HasSame gs f → (g : Find) × IsIn g gs × AreSameFound f g
+pub has-in : (gs : List Find) (f : Find) → HasSame gs f → (g : Find) × IsIn g gs × AreSameFound f g
 has-in [] f h = absurd h
 has-in (g ∷ gs) f (inl e) = (g, inl refl, e)
 has-in (g ∷ gs) f (inr h) = let r = has-in gs f h in (r.0, inr r.1, r.2)
 
-in-has : (gs : List Find) (f g : Find) → IsIn g gs → AreSameFound f g → HasSame gs f
+pub in-has : (gs : List Find) (f g : Find) → IsIn g gs → AreSameFound f g → HasSame gs f
 in-has [] f g i e = absurd i
 in-has (x ∷ gs) f g (inl same) e = inl (subst (λ (y : Find). AreSameFound f y) same e)
 in-has (x ∷ gs) f g (inr i) e = inr (in-has gs f g i e)
@@ -116,3 +116,24 @@ alike-added fs gs found f same alike = covered-alike (fs ++ f ∷ []) (gs ++ fou
 -- what is the same as what is found after a request leaves it as it was
 pub same-after : (f after found : Find) → AreSameFound f after → AreSameFound after found → AreSameFound f found
 same-after f after found a b = same-trans f after found a b
+
+-- ---- what is known of finds
+
+-- what requests make of a find that is the same as a known one is among those that were found
+pub told-again : SameIsFound → (t : TailoringParts) (us : List Candidate) (origins fs : List Find) (o : Find) → HasSame origins o → AreKnown t us origins fs → HasSame fs (found_after_all t us o)
+told-again law t us origins fs o has known =
+    let p = has-in origins o has in
+    let g = has-in fs (found_after_all t us p.0) (AllByRecursion-IsIn (λ x. HasSame fs (found_after_all t us x)) p.0 origins known p.1) in
+    in-has fs (found_after_all t us o) g.0 g.1 (same-trans (found_after_all t us o) (found_after_all t us p.0) g.0 (after_all-same law t us o p.0 p.2) g.2)
+
+has-wider : (fs gs : List Find) (f x : Find) → AreAlike (fs ++ f ∷ []) gs → HasSame fs x → HasSame gs x
+has-wider fs gs f x alike has =
+    let p = has-in fs x has in
+    let g = (alike-covered (fs ++ f ∷ []) gs alike).0 p.0 (IsIn-left p.0 fs (f ∷ []) p.1) in
+    in-has gs x g.0 g.1 (same-trans x p.0 g.0 p.2 g.2)
+
+-- one more find, and what requests make of it
+pub known-added : (t : TailoringParts) (us : List Candidate) (origins fs gs : List Find) (o : Find) → AreAlike (fs ++ found_after_all t us o ∷ []) gs → AreKnown t us origins fs → AreKnown t us (origins ++ o ∷ []) gs
+known-added t us [] fs gs o alike known =
+    (let g = (alike-covered (fs ++ found_after_all t us o ∷ []) gs alike).0 (found_after_all t us o) (IsIn-right (found_after_all t us o) fs (found_after_all t us o ∷ []) (inl refl)) in in-has gs (found_after_all t us o) g.0 g.1 g.2, tt)
+known-added t us (x ∷ xs) fs gs o alike known = (has-wider fs gs (found_after_all t us o) (found_after_all t us x) alike known.0, known-added t us xs fs gs o alike known.1)

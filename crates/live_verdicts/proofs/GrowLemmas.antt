@@ -24,11 +24,11 @@ use Rattle.opening_sweeps.specs.Requests.{Start}
 use Rattle.opening_sweeps.proofs.FoldLemmas.{same-refl, same-sym, same-trans, after_all-same, after_all-append, first_all-append}
 use Rattle.opening_sweeps.proofs.BasisLemmas.{in-map, map-in}
 use Rattle.live_verdicts.specs.Changes.{unsure, unsures}
-use Rattle.live_verdicts.specs.Marks.{found_at, first_found, first_at, AreAlike, AreFound, IsFormedMark, IsMarkOf, Leaves, among, passed, with_calm}
+use Rattle.live_verdicts.specs.Marks.{found_at, first_found, first_at, AreAlike, AreFound, AreKnown, HasSame, IsFormedMark, IsMarkOf, Leaves, among, passed, with_calm}
 use Rattle.live_verdicts.specs.declared.mark.Mark.{Mark}
 use Rattle.live_verdicts.proofs.AmongLemmas.{next-numbered}
 use Rattle.live_verdicts.proofs.SplitLemmas.{between-append, nothing-between, taken-in, dropped-in}
-use Rattle.live_verdicts.proofs.FindLemmas.{covered-alike, alike-trans, alike-after}
+use Rattle.live_verdicts.proofs.FindLemmas.{has-in, in-has, alike-covered, covered-alike, alike-trans, alike-after}
 use Rattle.live_verdicts.proofs.MarkLemmas.{map-same, map-twice}
 
 -- ---- all of a list's front
@@ -50,11 +50,6 @@ all-taken P xs i le all = subst (λ ys. All P ys) (whole i xs le) all
 
 abbrev pub IsUnsureAt : History → Key → ℕ → Option Candidate → Type 0
 IsUnsureAt h key n o = (s : Sent) → slice_get h.requests n ≡ Some s → o ≡ unsure h key (n, s)
-
-pub unsures-next : (h : History) (key : Key) (n : ℕ) (o : Option Candidate) → n < length h.requests → IsUnsureAt h key n o → unsures h key n (n + 1) ≡ option_to_list o
-unsures-next h key n o l told =
-    next-numbered (unsure h key) h.requests n n o (omega arith) l told
-    ∙ ap (λ xs. filter_map (unsure h key) xs ++ option_to_list o) (nothing-between h.requests n n (omega arith))
 
 abbrev IsOwn : TailoringParts → Request → Type 0
 IsOwn t r = IsRequest t r × (length (instructions r) ≤ 255)
@@ -88,12 +83,13 @@ unsures-formed law g key first end grounded = All-from_recursion (IsFormedCandid
         unsure-formed law g.tailoring h key r.0.0 r.0.1 c
         (AllByRecursion-IsIn (λ s. IfSome s.request (IsOwn g.tailoring)) r.0.1 h.requests grounded.requests (numbered-IsIn 0 r.0 h.requests j)) r.2
 
-pub unsures-one : (h : History) (key : Key) (n : ℕ) (c : Candidate) (before after : List Candidate) → n < length h.requests → IsUnsureAt h key n (Some c) → before ≡ [] → after ≡ before ++ c ∷ []
-    → after ≡ unsures h key n (n + 1)
-unsures-one h key n c before after l told b a = a ∙ (ap (λ xs. xs ++ c ∷ []) b ∙ sym (unsures-next h key n (Some c) l told))
+pub unsures-with : (h : History) (key : Key) (first n : ℕ) (c : Candidate) (before after : List Candidate) → first ≤ n → n < length h.requests → IsUnsureAt h key n (Some c) → before ≡ unsures h key first n
+    → after ≡ before ++ c ∷ [] → after ≡ unsures h key first (n + 1)
+unsures-with h key first n c before after le l told b a = a ∙ (ap (λ xs. xs ++ c ∷ []) b ∙ sym (next-numbered (unsure h key) h.requests first n (Some c) le l told))
 
-pub unsures-none : (h : History) (key : Key) (n : ℕ) (before : List Candidate) → n < length h.requests → IsUnsureAt h key n None → before ≡ [] → before ≡ unsures h key n (n + 1)
-unsures-none h key n before l told b = b ∙ sym (unsures-next h key n None l told)
+pub unsures-without : (h : History) (key : Key) (first n : ℕ) (before : List Candidate) → first ≤ n → n < length h.requests → IsUnsureAt h key n None → before ≡ unsures h key first n
+    → before ≡ unsures h key first (n + 1)
+unsures-without h key first n before le l told b = b ∙ sym (next-numbered (unsure h key) h.requests first n None le l told ∙ append-nil (unsures h key first n))
 
 -- ---- one more request
 
@@ -122,11 +118,28 @@ found-more law t r later us ss fs gs change last more are alike is =
       first = λ l. is ∙ (ap (λ o. first_after_all us o) (are.first l) ∙ sym (first-more r later us ss more l));
     }
 
+-- what more requests make of finds is known
+known-more : SameIsFound → (t : TailoringParts) (us more : List Candidate) (origins fs gs : List (Option (List (Option Structure)))) → AreAlike (map (found_after_all t more) fs) gs → AreKnown t us origins fs
+    → AreKnown t (us ++ more) origins gs
+known-more law t us more [] fs gs alike known = tt
+known-more law t us more (o ∷ os) fs gs alike known = (one (has-in fs (found_after_all t us o) known.0), known-more law t us more os fs gs alike known.1)
+  where
+    one : (f : Option (List (Option Structure))) × IsIn f fs × AreSameFound (found_after_all t us o) f → HasSame gs (found_after_all t (us ++ more) o)
+    one f =
+        let g = (alike-covered (map (found_after_all t more) fs) gs alike).0 (found_after_all t more f.0) (map-in (found_after_all t more) f.0 fs f.1) in
+        in-has gs (found_after_all t (us ++ more) o) g.0 g.1
+        (subst (λ (x : Option (List (Option Structure))). AreSameFound x g.0) (sym (after_all-append t us more o))
+        (same-trans (found_after_all t more (found_after_all t us o)) (found_after_all t more f.0) g.0 (after_all-same law t more (found_after_all t us o) f.0 f.2) g.2))
+
+unsures-more : (h : History) (key : Key) (past n : ℕ) → past ≤ n → unsures h key past (n + 1) ≡ unsures h key past n ++ unsures h key n (n + 1)
+unsures-more h key past n le = between-append (unsure h key) h.requests past n (n + 1) le (omega arith)
+
 -- the mark that holds with one more request
 pub grown-mark : SameIsFound → (g : Ground) (key : Key) (starts : List Start) (m now : Mark) → m.calm < length g.history.requests → now.tag ≡ m.tag → now.past ≡ m.past → now.listed ≡ m.calm + 1 → now.calm ≡ m.calm + 1
     → AreAlike (map (found_after_all g.tailoring (unsures g.history key m.calm (m.calm + 1))) m.finds.items) now.finds.items → now.first ≡ first_after_all (unsures g.history key m.calm (m.calm + 1)) m.first
+    → now.open_change ≡ first_after_all (unsures g.history key m.calm (m.calm + 1)) m.open_change → now.origins.items ≡ m.origins.items
     → IsFormedMark g.tailoring now → IsMarkOf g key starts m → IsMarkOf g key starts now
-grown-mark law g key starts m now within tag past listed calm alike first formed mark =
+grown-mark law g key starts m now within tag past listed calm alike first change origins formed mark =
     record {
       behind = let a = mark.behind in let b = mark.order in omega (arith, a, b, past, listed);
       order = omega (arith, listed, calm);
@@ -137,6 +150,20 @@ grown-mark law g key starts m now within tag past listed calm alike first formed
           subst (λ k. AreFound t (passed h key now.tag now.past k) starts now.finds.items now.first) number
           (subst (λ k. AreFound t (passed h key k now.past (m.calm + 1)) starts now.finds.items now.first) (sym tag)
           (subst (λ k. AreFound t (passed h key m.tag k (m.calm + 1)) starts now.finds.items now.first) (sym past) found));
+      known = λ n from to.
+          let number : m.calm + 1 ≡ n = omega (arith, from, to, listed, calm) in
+          subst (λ k. AreKnown t (unsures h key now.past k) now.origins.items now.finds.items) number
+          (subst (λ k. AreKnown t (unsures h key k (m.calm + 1)) now.origins.items now.finds.items) (sym past)
+          (subst (λ fs. AreKnown t (unsures h key m.past (m.calm + 1)) fs now.finds.items) (sym origins)
+          (subst (λ cs. AreKnown t cs m.origins.items now.finds.items) (sym more)
+          (known-more law t (unsures h key m.past m.calm) (unsures h key m.calm (m.calm + 1)) m.origins.items m.finds.items now.finds.items alike (mark.known m.calm mark.order (omega arith))))));
+      open_change = λ n from to.
+          let number : m.calm + 1 ≡ n = omega (arith, from, to, listed, calm) in
+          subst (λ k. now.open_change ≡ first_after_all (unsures h key now.past k) None) number
+          (subst (λ k. now.open_change ≡ first_after_all (unsures h key k (m.calm + 1)) None) (sym past)
+          (change
+          ∙ (ap (λ o. first_after_all (unsures h key m.calm (m.calm + 1)) o) (mark.open_change m.calm mark.order (omega arith))
+          ∙ (sym (first_all-append (unsures h key m.past m.calm) (unsures h key m.calm (m.calm + 1)) None) ∙ ap (λ cs. first_after_all cs None) (sym more)))));
     }
   where
     t : TailoringParts
@@ -144,6 +171,9 @@ grown-mark law g key starts m now within tag past listed calm alike first formed
 
     h : History
     h = g.history
+
+    more : unsures h key m.past (m.calm + 1) ≡ unsures h key m.past m.calm ++ unsures h key m.calm (m.calm + 1)
+    more = unsures-more h key m.past m.calm (let a = mark.behind in let b = mark.order in omega (arith, a, b))
 
     found : AreFound t (passed h key m.tag m.past (m.calm + 1)) starts now.finds.items now.first
     found =
@@ -160,6 +190,10 @@ left-find law t (c ∷ cs) f all =
 left-first : (us : List Candidate) (t : TailoringParts) (m : Mark) → AllByRecursion (λ c. Leaves t c m) us → first_after_all us m.first ≡ m.first
 left-first [] t m all = refl
 left-first (c ∷ cs) t m all = ap (λ o. first_after_all cs o) all.0.first ∙ left-first cs t m all.1
+
+left-open : (us : List Candidate) (t : TailoringParts) (m : Mark) → AllByRecursion (λ c. Leaves t c m) us → first_after_all us m.open_change ≡ m.open_change
+left-open [] t m all = refl
+left-open (c ∷ cs) t m all = ap (λ o. first_after_all cs o) all.0.open_change ∙ left-open cs t m all.1
 
 left-finds : SameIsFound → (t : TailoringParts) (us : List Candidate) (m : Mark) → All (λ c. Leaves t c m) us → AreAlike (map (found_after_all t us) m.finds.items) m.finds.items
 left-finds law t us m all = covered-alike (map (found_after_all t us) m.finds.items) m.finds.items there back
@@ -190,6 +224,8 @@ calm-more law g key starts m n within listed all mark =
       within = omega (arith, within);
       formed = record { finds = mark.formed.finds; basis = mark.formed.basis; valid = mark.formed.valid };
       found = λ k from to. go k from (below k (n + 1) to);
+      known = λ k from to. go_known k from (below k (n + 1) to);
+      open_change = λ k from to. go_open k from (below k (n + 1) to);
     }
   where
     t : TailoringParts
@@ -216,3 +252,21 @@ calm-more law g key starts m n within listed all mark =
         (λ s. passed-more h key m.tag m.past n s (let a = mark.behind in omega (arith, a, listed)))
         (mark.found n listed (omega arith)) (left-finds law t (unsures h key n (n + 1)) m all)
         (sym (left-first (unsures h key n (n + 1)) t m (recursion_from_All (λ c. Leaves t c m) (unsures h key n (n + 1)) all))))
+
+    more : unsures h key m.past (n + 1) ≡ unsures h key m.past n ++ unsures h key n (n + 1)
+    more = unsures-more h key m.past n (let a = mark.behind in omega (arith, a, listed))
+
+    go_known : (k : ℕ) → m.listed ≤ k → (k < n + 1) ⊎ (k ≡ n + 1) → AreKnown t (unsures h key m.past k) m.origins.items m.finds.items
+    go_known k from (inl l) = mark.known k from (omega (arith, l))
+    go_known k from (inr e) =
+        subst (λ j. AreKnown t (unsures h key m.past j) m.origins.items m.finds.items) (sym e)
+        (subst (λ cs. AreKnown t cs m.origins.items m.finds.items) (sym more)
+        (known-more law t (unsures h key m.past n) (unsures h key n (n + 1)) m.origins.items m.finds.items m.finds.items (left-finds law t (unsures h key n (n + 1)) m all) (mark.known n listed (omega arith))))
+
+    go_open : (k : ℕ) → m.listed ≤ k → (k < n + 1) ⊎ (k ≡ n + 1) → m.open_change ≡ first_after_all (unsures h key m.past k) None
+    go_open k from (inl l) = mark.open_change k from (omega (arith, l))
+    go_open k from (inr e) =
+        subst (λ j. m.open_change ≡ first_after_all (unsures h key m.past j) None) (sym e)
+        (sym (left-open (unsures h key n (n + 1)) t m (recursion_from_All (λ c. Leaves t c m) (unsures h key n (n + 1)) all))
+        ∙ (ap (λ o. first_after_all (unsures h key n (n + 1)) o) (mark.open_change n listed (omega arith))
+        ∙ (sym (first_all-append (unsures h key m.past n) (unsures h key n (n + 1)) None) ∙ ap (λ cs. first_after_all cs None) (sym more))))

@@ -16,12 +16,12 @@ use Rattle.ground_history.specs.Histories.{Sent, History}
 use Rattle.ground_history.specs.Evidence.{outcome}
 use Rattle.ground_history.specs.Ground.{Ground, IsGrounded}
 use Rattle.definition_intervals.specs.Openings.{Candidate, candidate, candidates, is_possible, is_certain}
-use Rattle.definition_intervals.specs.Founds.{IsFormedFound}
+use Rattle.definition_intervals.specs.Founds.{IsFormedFound, first_after_all}
 use Rattle.definition_intervals.specs.Bases.{IsFormedBasis}
 use Rattle.definition_intervals.proofs.StateLemmas.{key_eq-same}
 use Rattle.opening_sweeps.specs.Requests.{Start, boot_starts}
 use Rattle.live_verdicts.specs.Changes.{IsBelow, IsUpTo, AreSameBelow, AreUnsureSame, told_below, unsures}
-use Rattle.live_verdicts.specs.Marks.{starts_below, among, passed, AreFound, IsFormedMark, IsMarkOf, IsMark, IsKept, StandsFor, narrowed_to, with_calm, IsPlaceOf, calm_at}
+use Rattle.live_verdicts.specs.Marks.{starts_below, among, passed, AreFound, AreKnown, IsFormedMark, IsMarkOf, IsMark, IsKept, StandsFor, narrowed_to, with_calm, IsPlaceOf, calm_at}
 use Rattle.live_verdicts.specs.declared.mark.Mark.{Mark}
 use Rattle.live_verdicts.specs.declared.mark.StructureMark.{StructureMark}
 use Rattle.live_verdicts.proofs.SplitLemmas.{taken-below, dropped-above}
@@ -126,11 +126,21 @@ mark-later from touched g later key m same unsure kept mark =
                 subst (λ t. IsFormedMark t (with_calm m (narrowed_to m.calm touched))) (sym same.tailoring)
                 (record { finds = mark.mark.formed.finds; basis = mark.mark.formed.basis; valid = mark.mark.formed.valid });
             found = found;
+            known = λ n at to.
+                let b = narrowed-below m.calm touched n to in
+                subst (λ t. AreKnown t (unsures later.history key m.past n) m.origins.items m.finds.items) (sym same.tailoring)
+                (subst (λ us. AreKnown g.tailoring us m.origins.items m.finds.items) (sym (unsure.unsures key m.past n (within n b.0) b.1)) (mark.mark.known n at b.0));
+            open_change = λ n at to.
+                let b = narrowed-below m.calm touched n to in
+                mark.mark.open_change n at b.0 ∙ ap (λ us. first_after_all us None) (sym (unsure.unsures key m.past n (within n b.0) b.1));
           };
       opened = mark.opened;
       told = same.told key m.tag kept.0 ∙ (mark.told ∙ sym (same.told key m.opened (below-lower from m.opened m.tag mark.opened kept.0)));
     }
   where
+    within : (n : ℕ) → n ≤ m.calm → n ≤ length g.history.requests
+    within n le = let w = mark.mark.within in omega (arith, le, w)
+
     starts : starts_below later.tailoring later.history key m.tag ≡ starts_below g.tailoring g.history key m.tag
     starts =
         ap (λ t. boot_starts t later.history key ++ told_below later.history key m.tag) same.tailoring

@@ -23,10 +23,10 @@ use Rattle.opening_sweeps.proofs.JoinLemmas.{formed-one}
 use Rattle.opening_sweeps.proofs.FoldLemmas.{after_all-append, first_all-append}
 use Rattle.opening_sweeps.proofs.ListLemmas.{opening_of, all-found, last_start, AreInOrder, named-last}
 use Rattle.opening_sweeps.proofs.BasisLemmas.{basis-covered}
-use Rattle.live_verdicts.specs.Changes.{told_start_below, told_below}
-use Rattle.live_verdicts.specs.Marks.{starts_below, found_at, first_found, first_at, AreAlike, AreFound, IsFormedMark, IsMarkOf, IsMark, HoldsFor, GoesOn, IsNear, AreListedBelow, among, passed, told_between, found_by, first_by}
+use Rattle.live_verdicts.specs.Changes.{told_start_below, told_below, unsures}
+use Rattle.live_verdicts.specs.Marks.{starts_below, found_at, first_found, first_at, AreAlike, AreFound, AreKnown, IsFormedMark, IsMarkOf, IsMark, HavePassed, ArePending, HoldsFor, GoesOn, ComesTo, IsNear, AreListedBelow, among, passed, told_between, found_by, first_by}
 use Rattle.live_verdicts.specs.declared.mark.Mark.{Mark}
-use Rattle.live_verdicts.proofs.SplitLemmas.{candidates-front, passed-same, passed-split, passed-behind, late-none}
+use Rattle.live_verdicts.proofs.SplitLemmas.{candidates-front, open-same, passed-same, passed-split, passed-behind, passed-later, late-none}
 use Rattle.live_verdicts.proofs.SameLemmas.{filter_map-none}
 use Rattle.live_verdicts.proofs.ToldLemmas.{told-split, told-after}
 use Rattle.live_verdicts.proofs.FindLemmas.{alike-covered, alike-refl, alike-trans, alike-after}
@@ -80,6 +80,12 @@ between-member h key from tag s i =
     let at = leb-true from (tag_of k.0) (IsIn-filter (λ x. nat_le from (tag_of x)) k.0 h.kept k.1).1 in
     let t = told-tag key tag k.0 s k.2 in
     omega (arith, at, t.0)
+
+between-below : (h : History) (key : Key) (from tag : ℕ) (s : Start) → IsIn s (told_between h key from tag) → s.tag < tag
+between-below h key from tag s i =
+    let k = IsIn-filter_map (told_start_below key tag) s (filter (λ x. nat_le from (tag_of x)) h.kept) i in
+    let t = told-tag key tag k.0 s k.2 in
+    omega (arith, t.0, t.1)
 
 -- they are in the order of tags
 kept-order : (key : Key) (tag : ℕ) (ks : List Kept) → HaveRisingTags ks → AreInOrder (filter_map (told_start_below key tag) ks)
@@ -298,12 +304,12 @@ opened-told g key m now tag grounded mark from to untold is = go (told_between g
         let some = is.some (λ p. let no : s ∷ ss ≡ [] → ⊥ = λ q. cc in no (sym e ∙ p)) in
         (some.0, untold-same g key now.opened now.tag grounded some.0 some.1)
 
--- The mark at the later tag.
-pub later-mark : SameIsFound → (g : Ground) (key : Key) (m now : Mark) (tag n end : ℕ) (finds : List (Option (List (Option Structure)))) (first : Option ℕ)
-    → IsGrounded g → IsMark g key m → GoesOn g.history m n tag → n ≤ end → IsLater g key m tag n end finds first now.finds.items now.first → IsFormedMark g.tailoring now
-    → now.listed ≡ end → now.calm ≡ end → m.tag ≤ now.tag → now.tag ≤ tag → (newest_told g.history.kept < now.tag) ⊎ (now.tag ≡ tag)
-    → IsOpened g key m now (told_between g.history key m.tag tag) → HoldsFor g.history now end tag → IsMark g key now
-later-mark same g key m now tag n end finds first grounded mark goes order is formed listed calm from to untold opened holds =
+-- A mark by what is found for reports with a tag, to which it comes.
+pub mark-at : (g : Ground) (key : Key) (m now : Mark) (tag end : ℕ) → IsGrounded g → IsMark g key m → IsFormedMark g.tailoring now → now.listed ≡ end → now.calm ≡ end → m.tag ≤ now.tag → now.tag ≤ tag
+    → (newest_told g.history.kept < now.tag) ⊎ (now.tag ≡ tag) → IsOpened g key m now (told_between g.history key m.tag tag) → HoldsFor g.history now end tag
+    → AreFound g.tailoring (λ s. among g.history key s tag 0 end) (starts_below g.tailoring g.history key tag) now.finds.items now.first
+    → AreKnown g.tailoring (unsures g.history key now.past end) now.origins.items now.finds.items → now.open_change ≡ first_after_all (unsures g.history key now.past end) None → IsMark g key now
+mark-at g key m now tag end grounded mark formed listed calm from to untold opened holds at_tag known change =
     record {
       mark =
           record {
@@ -312,6 +318,8 @@ later-mark same g key m now tag n end finds first grounded mark goes order is fo
             within = let w = holds.within in omega (arith, w, calm);
             formed = formed;
             found = λ k a b. subst (λ j. AreFound t (passed h key now.tag now.past j) (starts_below t h key now.tag) now.finds.items now.first) (omega (arith, a, b, listed, calm)) found;
+            known = λ k a b. subst (λ j. AreKnown t (unsures h key now.past j) now.origins.items now.finds.items) (omega (arith, a, b, listed, calm)) known;
+            open_change = λ k a b. subst (λ j. now.open_change ≡ first_after_all (unsures h key now.past j) None) (omega (arith, a, b, listed, calm)) change;
           };
       opened = both.0;
       told = both.1;
@@ -329,18 +337,127 @@ later-mark same g key m now tag n end finds first grounded mark goes order is fo
     both : (now.opened ≤ now.tag) × (told_below h key now.tag ≡ told_below h key now.opened)
     both = opened-told g key m now tag grounded mark from to same_told opened
 
-    at_tag : AreFound t (λ s. among h key s tag 0 end) (starts_below t h key tag) now.finds.items now.first
-    at_tag =
-        record {
-          finds = later-finds same g key m tag n end finds first now.finds.items now.first grounded mark goes order is;
-          first = later-first g key m tag n end finds first now.finds.items now.first grounded mark goes order is;
-        }
-
     found : AreFound t (passed h key now.tag now.past end) (starts_below t h key now.tag) now.finds.items now.first
     found =
         subst (λ ss. AreFound t (passed h key now.tag now.past end) (boot_starts t h key ++ ss) now.finds.items now.first) same_told
         (found-same t (λ s. among h key s tag 0 end) (passed h key now.tag now.past end) (starts_below t h key tag) now.finds.items now.first
         (λ s i. passed-same h key now s.tag tag end holds (below-member t h key tag s i)) at_tag)
+
+-- The mark at the later tag.
+pub later-mark : SameIsFound → (g : Ground) (key : Key) (m now : Mark) (tag n end : ℕ) (finds : List (Option (List (Option Structure)))) (first : Option ℕ)
+    → IsGrounded g → IsMark g key m → GoesOn g.history m n tag → n ≤ end → IsLater g key m tag n end finds first now.finds.items now.first → IsFormedMark g.tailoring now
+    → now.listed ≡ end → now.calm ≡ end → m.tag ≤ now.tag → now.tag ≤ tag → (newest_told g.history.kept < now.tag) ⊎ (now.tag ≡ tag)
+    → IsOpened g key m now (told_between g.history key m.tag tag) → now.origins.items ≡ [] → now.open_change ≡ first_after_all (unsures g.history key now.past end) None
+    → HoldsFor g.history now end tag → IsMark g key now
+later-mark same g key m now tag n end finds first grounded mark goes order is formed listed calm from to untold opened none change holds =
+    mark-at g key m now tag end grounded mark formed listed calm from to untold opened holds
+    (record {
+      finds = later-finds same g key m tag n end finds first now.finds.items now.first grounded mark goes order is;
+      first = later-first g key m tag n end finds first now.finds.items now.first grounded mark goes order is;
+    })
+    (subst (λ fs. AreKnown g.tailoring (unsures g.history key now.past end) fs now.finds.items) (sym none) tt) change
+
+-- ---- the mark with more states that were told
+
+-- what is found with more states, behind those of a mark, of which the requests that it doesn't hold as passed haven't ended
+pub record IsTold (g : Ground) (key : Key) (m now : Mark) (listed tag : ℕ) : Type 0 where
+  pub alike : (fs : List (Option (List (Option Structure)))) → AreAlike fs m.finds.items
+      → AreAlike (fs ++ map (found_at g.tailoring (λ s. unsures g.history key m.past listed)) (told_between g.history key m.tag tag)) now.finds.items
+  pub none : told_between g.history key m.tag tag ≡ [] → now.first ≡ m.first
+  pub some : (told_between g.history key m.tag tag ≡ [] → ⊥) → now.first ≡ m.open_change
+  pub known : AreKnown g.tailoring (unsures g.history key m.past listed) now.origins.items now.finds.items
+
+-- nothing but requests that haven't ended comes behind a state that is told behind a mark
+told-requests : (h : History) (key : Key) (m : Mark) (listed tag : ℕ) → ComesTo h m listed tag → (s : Start) → IsIn s (told_between h key m.tag tag)
+    → among h key s.tag tag 0 listed ≡ unsures h key m.past listed
+told-requests h key m listed tag comes s i =
+    passed-behind h key m s.tag tag listed comes.holds.passed (between-member h key m.tag tag s i) comes.holds.order
+    ∙ open-same h key m s.tag tag listed comes.holds (let lt = between-below h key m.tag tag s i in omega (arith, lt))
+
+told-first : (requests : ℕ → List Candidate) (us : List Candidate) (s : Start) (ss : List Start) → ((x : Start) → IsIn x (s ∷ ss) → requests x.tag ≡ us) → first_at requests (s ∷ ss) ≡ first_after_all us None
+told-first requests us s [] same = ap (λ cs. first_after_all cs None) (same s (inl refl))
+told-first requests us s (x ∷ ss) same = told-first requests us x ss (λ y i. same y (inr i))
+
+told-found : (g : Ground) (key : Key) (m now : Mark) (listed tag : ℕ) → IsGrounded g → IsMark g key m → ComesTo g.history m listed tag → listed ≤ m.calm → IsTold g key m now listed tag
+    → AreFound g.tailoring (λ s. among g.history key s tag 0 listed) (starts_below g.tailoring g.history key tag) now.finds.items now.first
+told-found g key m now listed tag grounded mark comes reaches is = record { finds = finds; first = first }
+  where
+    t : TailoringParts
+    t = g.tailoring
+
+    h : History
+    h = g.history
+
+    us : List Candidate
+    us = unsures h key m.past listed
+
+    requests : ℕ → List Candidate
+    requests s = among h key s tag 0 listed
+
+    before : List Start
+    before = starts_below t h key m.tag
+
+    starts : starts_below t h key tag ≡ before ++ told_between h key m.tag tag
+    starts = later-starts g key m.tag tag grounded comes.holds.later
+
+    early : AreFound t requests before m.finds.items m.first
+    early =
+        found-same t (passed h key m.tag m.past listed) requests before m.finds.items m.first
+        (λ s i.
+        let at = below-member t h key m.tag s i in
+        let later = comes.holds.later in
+        sym (passed-same h key m s.tag tag listed comes.holds (omega (arith, at, later)))) (mark.mark.found listed comes.from reaches)
+
+    finds : AreAlike (map (found_at t requests) (starts_below t h key tag)) now.finds.items
+    finds =
+        subst (λ fs. AreAlike fs now.finds.items)
+        (sym
+        (ap (λ ss. map (found_at t requests) ss) starts
+        ∙ (map-append (found_at t requests) before (told_between h key m.tag tag)
+        ∙ ap (λ fs. map (found_at t requests) before ++ fs)
+        (map-same (found_at t requests) (found_at t (λ s. us)) (told_between h key m.tag tag)
+        (λ s i. ap (λ cs. found_after_all t cs (first_found s)) (told-requests h key m listed tag comes s i))))))
+        (is.alike (map (found_at t requests) before) early.finds)
+
+    first : 1 ≤ length (starts_below t h key tag) → now.first ≡ first_at requests (starts_below t h key tag)
+    first l = go (told_between h key m.tag tag) refl ∙ ap (λ ss. first_at requests ss) (sym starts)
+      where
+        go : (ss : List Start) → told_between h key m.tag tag ≡ ss → now.first ≡ first_at requests (before ++ told_between h key m.tag tag)
+        go [] e =
+            let same : before ++ told_between h key m.tag tag ≡ before = ap (λ ss. before ++ ss) e ∙ append-nil before in
+            is.none e
+            ∙ (early.first (subst (λ (ss : List Start). 1 ≤ length ss) (starts ∙ same) l) ∙ ap (λ ss. first_at requests ss) (sym same))
+        go (s ∷ ss) e =
+            is.some (λ p. let no : s ∷ ss ≡ [] → ⊥ = λ q. cc in no (sym e ∙ p))
+            ∙ (mark.mark.open_change listed comes.from reaches
+            ∙ (sym (told-first requests us s ss (λ x i. told-requests h key m listed tag comes x (subst (λ (xs : List Start). IsIn x xs) (sym e) i)))
+            ∙ (sym (first-behind requests before s ss) ∙ ap (λ xs. first_at requests (before ++ xs)) (sym e))))
+
+-- A mark with more states that were told, for reports to which it comes.
+pub told-mark : (g : Ground) (key : Key) (m now : Mark) (listed tag : ℕ) → IsGrounded g → IsMark g key m → ComesTo g.history m listed tag → listed ≤ m.calm → IsFormedMark g.tailoring now
+    → now.past ≡ m.past → now.listed ≡ listed → now.calm ≡ listed → now.open_change ≡ m.open_change → m.tag ≤ now.tag → now.tag ≤ tag → (newest_told g.history.kept < now.tag) ⊎ (now.tag ≡ tag)
+    → IsOpened g key m now (told_between g.history key m.tag tag) → IsTold g key m now listed tag → IsMark g key now × IsNear g.history key now listed tag
+told-mark g key m now listed tag grounded mark comes reaches formed past is calm change from to untold opened told =
+    (
+      mark-at g key m now tag listed grounded mark formed is calm from to untold opened holds (told-found g key m now listed tag grounded mark comes reaches told)
+          (subst (λ p. AreKnown g.tailoring (unsures h key p listed) now.origins.items now.finds.items) (sym past) told.known)
+          (change ∙ (mark.mark.open_change listed comes.from reaches ∙ ap (λ p. first_after_all (unsures h key p listed) None) (sym past))),
+      record { comes = record { from = omega (arith, is); holds = holds }; reaches = omega (arith, calm); untold = untold-same g key now.tag tag grounded to untold },
+    )
+  where
+    h : History
+    h = g.history
+
+    holds : HoldsFor h now listed tag
+    holds =
+        record {
+          later = to;
+          order = let o = comes.holds.order in omega (arith, o, past);
+          within = comes.holds.within;
+          passed = subst (λ p. HavePassed h p now.tag) (sym past) (passed-later h m.past m.tag now.tag from comes.holds.passed);
+          pending = subst (λ p. (p ≡ listed) ⊎ ArePending h p tag) (sym past) comes.holds.pending;
+          begun = comes.holds.begun;
+        }
 
 -- ---- the basis of verdicts
 
@@ -372,9 +489,9 @@ basis-of found give g key tag finds first basis grounded are is =
     name (s ∷ xs) e n order l = named-last found t h key tag s xs order ∙ ap (λ o. unwrap_or o 0) (sym (n (omega arith) ∙ first-last now s xs))
 
 -- the basis that a mark holds is that of reports to which it is near
-pub near-basis : OpeningsAreFound → FindsGiveBases → (g : Ground) (key : Key) (m : Mark) (listed tag : ℕ) → IsGrounded g → IsMark g key m → IsNear g.history key m listed tag → listed ≤ m.calm
+pub near-basis : OpeningsAreFound → FindsGiveBases → (g : Ground) (key : Key) (m : Mark) (listed tag : ℕ) → IsGrounded g → IsMark g key m → IsNear g.history key m listed tag
     → AreListedBelow g.history tag listed → IsBasis g.tailoring (openings g.tailoring g.history key tag) m.basis
-near-basis found give g key m listed tag grounded mark near reaches are =
+near-basis found give g key m listed tag grounded mark near are =
     basis-of found give g key tag m.finds.items m.first m.basis grounded now mark.mark.formed.basis
   where
     t : TailoringParts
@@ -389,9 +506,9 @@ near-basis found give g key m listed tag grounded mark near reaches are =
         (found-same t (passed h key m.tag m.past listed) (λ s. candidates h key s tag) (starts_below t h key m.tag) m.finds.items m.first
         (λ s i.
         let at = below-member t h key m.tag s i in
-        let later = near.holds.later in
-        sym (candidates-front h key s.tag tag listed are.late ∙ passed-same h key m s.tag tag listed near.holds (omega (arith, at, later))))
-        (mark.mark.found listed near.from reaches))
+        let later = near.comes.holds.later in
+        sym (candidates-front h key s.tag tag listed are.late ∙ passed-same h key m s.tag tag listed near.comes.holds (omega (arith, at, later))))
+        (mark.mark.found listed near.comes.from near.reaches))
 
 -- ---- the mark at tag 0
 
@@ -412,10 +529,10 @@ found-once t fs all = All-weaker (IsFormedFound t) (λ (f : Option (List (Option
     once None h = tt
     once (Some states) h = h.1
 
-pub first-mark : (g : Ground) (key : Key) (boot : Option Start) (m : Mark) → m.tag ≡ 0 → m.opened ≡ 0 → m.past ≡ 0 → m.listed ≡ 0 → m.calm ≡ 0 → m.first ≡ None
+pub first-mark : (g : Ground) (key : Key) (boot : Option Start) (m : Mark) → m.tag ≡ 0 → m.opened ≡ 0 → m.past ≡ 0 → m.listed ≡ 0 → m.calm ≡ 0 → m.first ≡ None → m.open_change ≡ None → m.origins.items ≡ []
     → option_to_list boot ≡ boot_starts g.tailoring g.history key → IfSome boot (IsFormedStart g.tailoring) → m.finds.items ≡ map first_found (option_to_list boot)
     → IsBasisOf m.finds.items (unwrap_or m.first 0) m.basis → IsFormedBasis g.tailoring m.basis → IsMark g key m
-first-mark g key boot m at opened past listed calm none starts formed finds_are basis valid =
+first-mark g key boot m at opened past listed calm none change origins starts formed finds_are basis valid =
     record {
       mark =
           record {
@@ -433,6 +550,10 @@ first-mark g key boot m at opened past listed calm none starts formed finds_are 
                 subst (λ j. AreFound t (passed h key m.tag m.past j) (starts_below t h key m.tag) m.finds.items m.first) zero_
                 (subst (λ j. AreFound t (passed h key m.tag j 0) (starts_below t h key m.tag) m.finds.items m.first) (sym past)
                 (subst (λ j. AreFound t (passed h key j 0 0) (starts_below t h key j) m.finds.items m.first) (sym at) found));
+            known = λ n from to. subst (λ fs. AreKnown t (unsures h key m.past n) fs m.finds.items) (sym origins) tt;
+            open_change = λ n from to.
+                let zero_ : 0 ≡ n = omega (arith, to, calm) in
+                subst (λ j. m.open_change ≡ first_after_all (unsures h key m.past j) None) zero_ (subst (λ j. m.open_change ≡ first_after_all (unsures h key j 0) None) (sym past) change);
           };
       opened = omega (arith, opened);
       told = ap (λ n. told_below h key n) (at ∙ sym opened);

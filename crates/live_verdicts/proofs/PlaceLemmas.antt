@@ -12,7 +12,7 @@ use Rattle.ground_history.specs.Ground.{Ground}
 use Rattle.definition_intervals.proofs.StateLemmas.{key_eq-same}
 use Rattle.opening_sweeps.specs.Requests.{Start}
 use Rattle.live_verdicts.specs.Changes.{AreSameBelow, AreUnsureSame, told_below}
-use Rattle.live_verdicts.specs.Marks.{starts_below, HavePassed, ArePending, IsMarkOf, IsMark, IsKept, IsNear, IsGrown, IsPlaceOf, StandsFor, narrowed_to, with_calm, calm_at}
+use Rattle.live_verdicts.specs.Marks.{starts_below, HavePassed, ArePending, IsMarkOf, IsMark, IsKept, ComesTo, IsGrown, IsPlaceOf, StandsFor, narrowed_to, with_calm, calm_at}
 use Rattle.live_verdicts.specs.declared.mark.Mark.{Mark}
 use Rattle.live_verdicts.specs.declared.mark.StructureMark.{StructureMark}
 use Rattle.live_verdicts.proofs.HeldLemmas.{mark-later}
@@ -121,20 +121,19 @@ next-mark g key m now mark grown more =
 pub stands-changed : (g : Ground) (held : List StructureMark) (place : ℕ) (x : StructureMark) → IsMarked g x → StandsFor held g → StandsFor (slice_set held place x) g
 stands-changed g held place x mark stands = record { marks = All-set (IsMarked g) held place x mark stands.marks }
 
-pub near-next : (h : History) (key : Key) (m now : Mark) (listed tag : ℕ) → IsGrown m now → m.calm < listed → IsNear h key m listed tag → IsNear h key now listed tag
-near-next h key m now listed tag grown short near =
+pub comes-next : (h : History) (m now : Mark) (listed tag : ℕ) → IsGrown m now → m.calm < listed → ComesTo h m listed tag → ComesTo h now listed tag
+comes-next h m now listed tag grown short comes =
     record {
       from = let a = grown.listed in omega (arith, a, short);
       holds =
           record {
-            later = let a = grown.tag in let b = near.holds.later in omega (arith, a, b);
-            order = let a = grown.past in let b = near.holds.order in omega (arith, a, b);
-            within = near.holds.within;
-            passed = subst (λ past. HavePassed h past now.tag) (sym grown.past) (subst (λ n. HavePassed h m.past n) (sym grown.tag) near.holds.passed);
-            pending = subst (λ past. (past ≡ listed) ⊎ ArePending h past tag) (sym grown.past) near.holds.pending;
-            begun = near.holds.begun;
+            later = let a = grown.tag in let b = comes.holds.later in omega (arith, a, b);
+            order = let a = grown.past in let b = comes.holds.order in omega (arith, a, b);
+            within = comes.holds.within;
+            passed = subst (λ past. HavePassed h past now.tag) (sym grown.past) (subst (λ n. HavePassed h m.past n) (sym grown.tag) comes.holds.passed);
+            pending = subst (λ past. (past ≡ listed) ⊎ ArePending h past tag) (sym grown.past) comes.holds.pending;
+            begun = comes.holds.begun;
           };
-      untold = near.untold ∙ ap (λ n. told_below h key n) (sym grown.tag);
     }
 
 pub calm-is : (held : List StructureMark) (place : ℕ) (x : StructureMark) → place < length held → x ≡ get_or held place x → calm_at held place ≡ x.mark.calm

@@ -182,11 +182,23 @@ candidates-front h key start tag end late =
     (λ x i. let w = dropped-above 0 end h.requests x i in late-none h key start tag x.0 x.1 (late x.0 (omega (arith, w.0)) (omega (arith, w.1)))))
     ∙ append-nil (among h key start tag 0 end)))
 
+-- requests that a mark doesn't hold as passed are unsure
+pub open-same : (h : History) (key : Key) (m : Mark) (start tag n : ℕ) → HoldsFor h m n tag → start ≤ tag → among h key start tag m.past n ≡ unsures h key m.past n
+open-same h key m start tag n holds le = go holds.pending
+  where
+    go : (m.past ≡ n) ⊎ ArePending h m.past tag → among h key start tag m.past n ≡ unsures h key m.past n
+    go (inl e) =
+        ap (λ xs. filter_map (candidate h key start tag) xs) (nothing-between h.requests m.past n (omega (arith, e)))
+        ∙ sym (ap (λ xs. filter_map (unsure h key) xs) (nothing-between h.requests m.past n (omega (arith, e))))
+    go (inr pending) =
+        filter_map-same (candidate h key start tag) (unsure h key) (drop m.past (take n (enumerate_from 0 h.requests)))
+        (λ x i. let w = between-number h.requests m.past n x i in unsure-same h key start tag x.0 x.1 (holds.begun x.0 w.1) (pending x.0 w.0 w.2) le)
+
 -- where a mark holds, the requests are those that it says
 pub passed-same : (h : History) (key : Key) (m : Mark) (start tag n : ℕ) → HoldsFor h m n tag → start ≤ tag → among h key start tag 0 n ≡ passed h key m.tag m.past n start
 passed-same h key m start tag n holds le =
     between-append (candidate h key start tag) h.requests 0 m.past n (omega arith) holds.order
-    ∙ (ap (λ xs. xs ++ among h key start tag m.past n) front ∙ ap (λ xs. among h key start m.tag 0 m.past ++ xs) (open_ holds.pending))
+    ∙ (ap (λ xs. xs ++ among h key start tag m.past n) front ∙ ap (λ xs. among h key start m.tag 0 m.past ++ xs) (open-same h key m start tag n holds le))
   where
     front : among h key start tag 0 m.past ≡ among h key start m.tag 0 m.past
     front =
@@ -195,14 +207,6 @@ passed-same h key m start tag n holds le =
         let l = (between-number h.requests 0 m.past x i).1 in
         let e = holds.passed.ended x.0 l in
         early-same h key start m.tag tag x.0 x.1 (holds.passed.begun x.0 l) holds.later (raised-most (high h x.0) m.tag tag holds.later e ∙ sym e))
-
-    open_ : (m.past ≡ n) ⊎ ArePending h m.past tag → among h key start tag m.past n ≡ unsures h key m.past n
-    open_ (inl e) =
-        ap (λ xs. filter_map (candidate h key start tag) xs) (nothing-between h.requests m.past n (omega (arith, e)))
-        ∙ sym (ap (λ xs. filter_map (unsure h key) xs) (nothing-between h.requests m.past n (omega (arith, e))))
-    open_ (inr pending) =
-        filter_map-same (candidate h key start tag) (unsure h key) (drop m.past (take n (enumerate_from 0 h.requests)))
-        (λ x i. let w = between-number h.requests m.past n x i in unsure-same h key start tag x.0 x.1 (holds.begun x.0 w.1) (pending x.0 w.0 w.2) le)
 
 -- From a state that a mark holds: the requests that it says, and those behind it.
 pub passed-split : (h : History) (key : Key) (m : Mark) (start tag n end : ℕ) → GoesOn h m n tag → m.opened ≤ tag → start ≤ m.opened → n ≤ end
@@ -224,6 +228,14 @@ passed-behind h key m start tag end have le order =
     (λ x i.
     let l = (between-number h.requests 0 m.past x i).1 in
     ended-none h key start tag x.0 x.1 (raised-most (high h x.0) m.tag start le (have.ended x.0 l))))
+
+-- requests that have passed at a tag have at a later one
+pub passed-later : (h : History) (past early tag : ℕ) → early ≤ tag → HavePassed h past early → HavePassed h past tag
+passed-later h past early tag le have =
+    record {
+      ended = λ k l. raised-most (high h k) early tag le (have.ended k l);
+      begun = λ k l. let lt = have.begun k l in omega (arith, lt, le);
+    }
 
 -- less is held of fewer requests
 pub holds-below : (h : History) (m : Mark) (n listed tag : ℕ) → m.past ≤ n → n ≤ listed → HoldsFor h m listed tag → HoldsFor h m n tag

@@ -64,6 +64,10 @@ pub record IsFormedMark (t : TailoringParts) (m : Mark) : Type 0 where
   pub basis : IsBasisOf m.finds.items (unwrap_or m.first 0) m.basis
   pub valid : IsFormedBasis t m.basis
 
+-- what requests make of each of some finds is among others
+abbrev pub AreKnown : TailoringParts → List Candidate → List (Option (List (Option Structure))) → List (Option (List (Option Structure))) → Type 0
+AreKnown t requests origins finds = AllByRecursion (λ f. HasSame finds (found_after_all t requests f)) origins
+
 -- A mark holds what is found of openings by the requests that have passed at its tag and those behind them, whatever number those are below, within its range.
 pub record IsMarkOf (g : Ground) (key : Key) (starts : List Start) (m : Mark) : Type 0 where
   pub behind : m.past ≤ m.listed
@@ -71,6 +75,8 @@ pub record IsMarkOf (g : Ground) (key : Key) (starts : List Start) (m : Mark) : 
   pub within : m.calm ≤ length g.history.requests
   pub formed : IsFormedMark g.tailoring m
   pub found : (n : ℕ) → m.listed ≤ n → n ≤ m.calm → AreFound g.tailoring (passed g.history key m.tag m.past n) starts m.finds.items m.first
+  pub known : (n : ℕ) → m.listed ≤ n → n ≤ m.calm → AreKnown g.tailoring (unsures g.history key m.past n) m.origins.items m.finds.items
+  pub open_change : (n : ℕ) → m.listed ≤ n → n ≤ m.calm → m.open_change ≡ first_after_all (unsures g.history key m.past n) None
 
 -- a mark of a structure: of the states that open below its tag, none of them from another tag on
 pub record IsMark (g : Ground) (key : Key) (m : Mark) : Type 0 where
@@ -112,10 +118,15 @@ pub record GoesOn (h : History) (m : Mark) (listed tag : ℕ) : Type 0 where
   pub ahead : ArePending h listed m.opened
   pub late : AreLate h listed m.opened
 
--- Nothing but open requests comes between a mark and reports with a tag, where the requests below a number may have been executed: no state was told.
-pub record IsNear (h : History) (key : Key) (m : Mark) (listed tag : ℕ) : Type 0 where
+-- A mark comes to reports with a tag, where the requests below a number may have been executed: it holds for them, where it reaches those requests.
+pub record ComesTo (h : History) (m : Mark) (listed tag : ℕ) : Type 0 where
   pub from : m.listed ≤ listed
   pub holds : HoldsFor h m listed tag
+
+-- The basis of verdicts that a mark holds is that on reports with a tag: it comes to them, it reaches the requests, and no state was told between.
+pub record IsNear (h : History) (key : Key) (m : Mark) (listed tag : ℕ) : Type 0 where
+  pub comes : ComesTo h m listed tag
+  pub reaches : listed ≤ m.calm
   pub untold : told_below h key tag ≡ told_below h key m.tag
 
 -- the requests below a number, and no others, may have been executed below a tag
@@ -157,6 +168,7 @@ pub record IsGrown (m later : Mark) : Type 0 where
 pub record Leaves (t : TailoringParts) (c : Candidate) (m : Mark) : Type 0 where
   pub finds : All (λ f. AreSameFound f (found_after t c f)) m.finds.items
   pub first : first_after c m.first ≡ m.first
+  pub open_change : first_after c m.open_change ≡ m.open_change
 
 -- a number, or that of the first request that was touched, if that is less
 abbrev pub narrowed_to : ℕ → Option ℕ → ℕ

@@ -1,11 +1,11 @@
 //! From marks on to reports behind them.
 ghost use Rattle.std.specs.Prelude.{◌≡◌, ◌<◌, ◌≤◌, IfOk, IfSome, length};
-ghost use Rattle.live_verdicts.specs.Marks.{AreListedBelow, GoesOn, IsMark, IsNear, IsPlaceOf, StandsFor};
+ghost use Rattle.live_verdicts.specs.Marks.{ComesTo, GoesOn, IsMark, IsPlaceOf, StandsFor};
 ghost use Rattle.live_verdicts.specs.declared.mark.Mark as declared;
 
 use crate::between::Numbers;
 use crate::firm::goes_on;
-use crate::held::{Asked, hold, is_near_to, is_same};
+use crate::held::{Asked, hold, is_coming, is_same};
 use crate::later::{first_mark, later_mark};
 use crate::mark::{Mark, StructureMark};
 use ground_history::History;
@@ -19,7 +19,7 @@ struct Behind {
     numbers: Numbers,
 }
 
-/// Holds a mark that is near to the reports, and gives its place; None where there is none to go on from.
+/// Holds a mark that comes to the reports, and gives its place; None where there is none to go on from.
 pub(crate) fn approach(
     alloc: Global,
     held: &mut Vec<StructureMark>,
@@ -30,12 +30,12 @@ pub(crate) fn approach(
     requires order { asked.past ≤ asked.listed }
     requires within { asked.listed ≤ length history.now.history.requests }
     ensures stands { StandsFor held.new.items history.now }
-    ensures near { IfOk result (λ found. IfSome found (IsPlaceOf (λ (m : declared.Mark). IsNear history.now.history asked.key m asked.listed asked.tag) asked.key held.new.items)) }
+    ensures coming { IfOk result (λ found. IfSome found (IsPlaceOf (λ (m : declared.Mark). ComesTo history.now.history m asked.listed asked.tag) asked.key held.new.items)) }
 {
     let Some(mark) = mark_behind(alloc, held, history, asked)? else {
         return Ok(None);
     };
-    if !is_near_to(history, &mark, asked) {
+    if !is_coming(history, &mark, asked) {
         return Ok(None);
     }
     Ok(Some(hold(held, asked.key, mark)?))
@@ -51,7 +51,7 @@ fn mark_behind(
     requires stands { StandsFor held.now history.now }
     requires order { asked.past ≤ asked.listed }
     requires within { asked.listed ≤ length history.now.history.requests }
-    ensures { IfOk result (λ found. IfSome found (λ mark. IsNear history.now.history asked.key mark asked.listed asked.tag → IsMark history.now asked.key mark)) }
+    ensures { IfOk result (λ found. IfSome found (λ mark. ComesTo history.now.history mark asked.listed asked.tag → IsMark history.now asked.key mark)) }
 {
     if let Some(Behind { place, numbers }) = place_behind(held, history, asked) {
         let mark = &held[place].mark;
@@ -65,7 +65,7 @@ fn mark_behind(
 fn mark_from_start(alloc: Global, history: &History, asked: Asked) -> Result<Option<Mark>, Memory>
     requires order { asked.past ≤ asked.listed }
     requires within { asked.listed ≤ length history.now.history.requests }
-    ensures { IfOk result (λ found. IfSome found (λ mark. IsNear history.now.history asked.key mark asked.listed asked.tag → IsMark history.now asked.key mark)) }
+    ensures { IfOk result (λ found. IfSome found (λ mark. ComesTo history.now.history mark asked.listed asked.tag → IsMark history.now asked.key mark)) }
 {
     let first = first_mark(alloc, history, asked.key)?;
     let numbers = numbers_from(&first, asked);
@@ -78,9 +78,8 @@ fn mark_from_start(alloc: Global, history: &History, asked: Asked) -> Result<Opt
 
 /// The last mark from which verdicts go on.
 fn place_behind(held: &[StructureMark], history: &History, asked: Asked) -> Option<Behind>
-    requires { asked.past ≤ asked.listed }
     ensures place { IfSome result (λ behind. IsPlaceOf (λ (m : declared.Mark). GoesOn history.now.history m behind.numbers.first asked.tag) asked.key held.now behind.place) }
-    ensures numbers { IfSome result (λ behind. (behind.numbers.first ≤ behind.numbers.end) × (behind.numbers.end ≤ asked.listed)) }
+    ensures numbers { IfSome result (λ behind. (behind.numbers.first ≤ behind.numbers.end) × (behind.numbers.end ≡ asked.past)) }
 {
     let mut end = held.len();
     while end > 0 {
@@ -97,18 +96,12 @@ fn place_behind(held: &[StructureMark], history: &History, asked: Asked) -> Opti
     None
 }
 
-/// The numbers of the requests by which verdicts go on from a mark: to those that may have been executed where no more have ended, or else to those that have.
+/// The numbers of the requests by which verdicts go on from a mark: to the last that is known to have ended.
 fn numbers_from(mark: &Mark, asked: Asked) -> Numbers
-    requires { asked.past ≤ asked.listed }
-    ensures { (result.first ≤ result.end) × (result.end ≤ asked.listed) }
+    ensures { (result.first ≤ result.end) × (result.end ≡ asked.past) }
 {
-    let end = if mark.past == asked.past {
-        asked.listed
-    } else {
-        asked.past
-    };
     Numbers {
-        first: mark.calm.min(end),
-        end,
+        first: mark.calm.min(asked.past),
+        end: asked.past,
     }
 }

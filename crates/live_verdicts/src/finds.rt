@@ -51,9 +51,33 @@ pub(crate) fn found_from(
     ensures same { IfOk result (λ later. AreSameFound later (found_after_all tailoring.now requests.now (Some (option_copied state.entry ∷ [])))) }
     ensures formed { IfOk result (IsFormedFound tailoring.now) }
 {
+    found_over(alloc, tailoring, requests, begun(alloc, state)?)
+}
+
+/// What is found of a state before any request.
+pub(crate) fn begun(
+    alloc: Global,
+    state: Option<&Structure>,
+) -> Result<Option<Items<Option<Structure>>>, Memory>
+    ensures { IfOk result (λ found. found ≡ Some (option_copied state.entry ∷ [])) }
+{
     let mut states = Vec::new(alloc);
     states.push(copied_state(alloc, state)?)?;
-    found_over(alloc, tailoring, requests, Some(Items::from_vec(states)))
+    Ok(Some(Items::from_vec(states)))
+}
+
+/// Equal copies of finds.
+pub(crate) fn copied_finds(
+    alloc: Global,
+    finds: &[Option<Items<Option<Structure>>>],
+) -> Result<Vec<Option<Items<Option<Structure>>>>, Memory>
+    ensures { IfOk result (λ copies. copies.items ≡ finds.now) }
+{
+    let mut copies = Vec::new(alloc);
+    for found in finds {
+        copies.push(copied_found(alloc, found)?)?;
+    }
+    Ok(copies)
 }
 
 /// The first open change after some requests.
@@ -105,7 +129,7 @@ pub(crate) fn add_find(
 }
 
 /// Whether the same was found already.
-fn has_same(
+pub(crate) fn has_same(
     finds: &[Option<Items<Option<Structure>>>],
     found: &Option<Items<Option<Structure>>>,
 ) -> bool

@@ -2,19 +2,17 @@
 ghost use Rattle.std.specs.Prelude.{◌≡◌, ◌<◌, ◌≤◌, true, length};
 ghost use Rattle.definition_intervals.specs.Openings as openings;
 ghost use Rattle.live_verdicts.specs.Changes.{told_below};
-ghost use Rattle.live_verdicts.specs.Marks.{ArePending, AreLate, GoesOn, HaveBegun, HavePassed, HoldsFor, IsNear};
+ghost use Rattle.live_verdicts.specs.Marks.{ArePending, AreLate, ComesTo, GoesOn, HaveBegun, HavePassed, HoldsFor};
 
 use crate::mark::Mark;
 use ground_history::{History, bounds_rise};
 use hk_base::Key;
 
-/// Whether nothing but open requests comes between a mark and reports with a tag, where the requests below a number may have been executed.
-pub(crate) fn is_near(history: &History, key: Key, mark: &Mark, listed: u64, tag: u64) -> bool
-    ensures { result ≡ true → IsNear history.now.history key mark.now listed tag }
+/// Whether a mark comes to reports with a tag, where the requests below a number may have been executed.
+pub(crate) fn comes_to(history: &History, mark: &Mark, listed: u64, tag: u64) -> bool
+    ensures { result ≡ true → ComesTo history.now.history mark.now listed tag }
 {
-    mark.listed <= listed
-        && is_untold(history, key, mark.tag, tag)
-        && holds_for(history, mark, listed, tag)
+    mark.listed <= listed && holds_for(history, mark, listed, tag)
 }
 
 /// Whether verdicts on reports with a tag go on from a mark with the requests below a number.
@@ -41,7 +39,7 @@ fn holds_for(history: &History, mark: &Mark, listed: u64, tag: u64) -> bool
 }
 
 /// Whether no state of the structure was told from a tag on and below another.
-fn is_untold(history: &History, key: Key, from: u64, tag: u64) -> bool
+pub(crate) fn is_untold(history: &History, key: Key, from: u64, tag: u64) -> bool
     ensures { result ≡ true → from ≤ tag → told_below history.now.history key tag ≡ told_below history.now.history key from }
 {
     let _tailoring = history.tailoring();

@@ -6,7 +6,7 @@ ghost use Rattle.definition_intervals.specs.Founds.{AreSameFound, IsFormedFound,
 ghost use Rattle.opening_sweeps.specs.Requests.{Start};
 ghost use Rattle.live_verdicts.specs.Marks.{IsMarkOf, IsFormedMark, IsGrown, Leaves, with_calm};
 
-use crate::finds::{basis_of_finds, finds_over, first_over};
+use crate::finds::{basis_of_finds, copied_finds, finds_over, first_over};
 use crate::mark::Mark;
 use crate::unsure::next_unsure;
 use definition_intervals::{Candidate, found_after, is_same_found, same_is_found};
@@ -71,10 +71,17 @@ fn leaves(
     requires finds { All (IsFormedFound tailoring.now) mark.now.finds.items }
     ensures { IfOk result (λ yes. yes ≡ true → Leaves tailoring.now request.now mark.now) }
 {
-    if first_after(request, mark.first) != mark.first {
+    if !leaves_change(request, mark.first) || !leaves_change(request, mark.open_change) {
         return Ok(false);
     }
     leaves_finds(alloc, tailoring, &mark.finds, request)
+}
+
+/// Whether the first open change after a request is the one before it.
+fn leaves_change(request: &Candidate<'_>, first: Option<u64>) -> bool
+    ensures { result ≡ true → first_after request.now first ≡ first }
+{
+    first_after(request, first) == first
 }
 
 /// Whether the same is found after a request as before it.
@@ -125,6 +132,8 @@ pub(crate) fn grown(
         calm: listed,
         finds,
         first,
+        open_change: first_over(&requests, mark.open_change),
+        origins: copied_finds(alloc, &mark.origins)?,
         basis,
     })
 }

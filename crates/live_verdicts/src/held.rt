@@ -2,10 +2,10 @@
 ghost use Rattle.std.specs.Prelude.{◌≡◌, ◌<◌, ◌≤◌, true, ℕ, IfOk, IfSome, length};
 ghost use Rattle.hk_base.specs.Parameters.{key_eq};
 ghost use Rattle.ground_history.specs.Ground.{Ground};
-ghost use Rattle.live_verdicts.specs.Marks.{IsMark, IsNear, IsPlaceOf, StandsFor};
+ghost use Rattle.live_verdicts.specs.Marks.{ComesTo, IsMark, IsPlaceOf, StandsFor};
 ghost use Rattle.live_verdicts.specs.declared.mark.Mark as declared;
 
-use crate::firm::is_near;
+use crate::firm::comes_to;
 use crate::mark::{Mark, StructureMark};
 use ground_history::History;
 use hk_base::{Key, Memory};
@@ -24,26 +24,26 @@ pub(crate) struct Asked {
     pub past: u64,
 }
 
-/// The place of the last mark that is near to the reports.
-pub(crate) fn near_place(held: &[StructureMark], history: &History, asked: Asked) -> Option<usize>
-    ensures { IfSome result (IsPlaceOf (λ (m : declared.Mark). IsNear history.now.history asked.key m asked.listed asked.tag) asked.key held.now) }
+/// The place of the last mark that comes to the reports.
+pub(crate) fn coming_place(held: &[StructureMark], history: &History, asked: Asked) -> Option<usize>
+    ensures { IfSome result (IsPlaceOf (λ (m : declared.Mark). ComesTo history.now.history m asked.listed asked.tag) asked.key held.now) }
 {
     let mut end = held.len();
     while end > 0 {
         end -= 1;
         let last = &held[end];
-        if is_same(last.key, asked.key) && is_near_to(history, &last.mark, asked) {
+        if is_same(last.key, asked.key) && is_coming(history, &last.mark, asked) {
             return Some(end);
         }
     }
     None
 }
 
-/// Whether a mark is near to the reports.
-pub(crate) fn is_near_to(history: &History, mark: &Mark, asked: Asked) -> bool
-    ensures { result ≡ true → IsNear history.now.history asked.key mark.now asked.listed asked.tag }
+/// Whether a mark comes to the reports.
+pub(crate) fn is_coming(history: &History, mark: &Mark, asked: Asked) -> bool
+    ensures { result ≡ true → ComesTo history.now.history mark.now asked.listed asked.tag }
 {
-    mark.past == asked.past && is_near(history, asked.key, mark, asked.listed, asked.tag)
+    mark.past == asked.past && comes_to(history, mark, asked.listed, asked.tag)
 }
 
 /// Holds one more mark, and gives its place. Where there are too many, the older half is given up.

@@ -5,6 +5,7 @@ ghost use Rattle.ground_history.specs.Ground.{IsGrounded, newest_told};
 ghost use Rattle.definition_intervals.specs.Founds.{IsFormedFound, first_after_all};
 ghost use Rattle.hk_base.specs.TailoringParts.{TailoringParts};
 ghost use Rattle.opening_sweeps.specs.Requests.{IsFormedStart};
+ghost use Rattle.live_verdicts.specs.Changes.{unsures};
 ghost use Rattle.live_verdicts.specs.Marks as marks;
 ghost use Rattle.live_verdicts.specs.Marks.{AreAlike, GoesOn, HoldsFor, IsMark, found_by, first_by, first_found};
 
@@ -12,6 +13,7 @@ use crate::between::{Numbers, among, told_between};
 use crate::finds::{add_find, basis_of_finds, finds_over, first_over, found_from};
 use crate::counting::ended_before;
 use crate::mark::Mark;
+use crate::unsure::unsures;
 use definition_intervals::{copied_state, same_is_found};
 use ground_history::History;
 use hk_base::{Items, Key, Memory, Structure};
@@ -67,12 +69,24 @@ pub(crate) fn later_mark(
         calm: numbers.end,
         finds: finding.finds,
         first: finding.first,
+        open_change: first_open(alloc, history, key, past, numbers.end)?,
+        origins: Vec::new(alloc),
         basis,
     })
 }
 
+/// The first open change of the requests with numbers from one on and below another that may have changed a structure, none of them known to have ended.
+fn first_open(alloc: Global, history: &History, key: Key, first: u64, end: u64) -> Result<Option<u64>, Memory>
+    requires order { first ≤ end }
+    requires within { end ≤ length history.now.history.requests }
+    ensures { IfOk result (λ change. change ≡ first_after_all (unsures history.now.history key first end) None) }
+{
+    let requests = unsures(alloc, history, key, Numbers { first, end })?;
+    Ok(first_over(&requests, None))
+}
+
 /// The tag from which on no state opens below another, where these opened behind an earlier one.
-fn opened_at(history: &History, opened: u64, starts: &[Start<'_>], tag: u64) -> u64
+pub(crate) fn opened_at(history: &History, opened: u64, starts: &[Start<'_>], tag: u64) -> u64
     ensures none { starts.now ≡ [] → result ≡ opened }
     ensures some { starts.now ≢ [] → (result ≤ tag) × ((newest_told history.now.history.kept < result) ⊎ (result ≡ tag)) }
 {
@@ -179,6 +193,8 @@ pub(crate) fn first_mark(alloc: Global, history: &History, key: Key) -> Result<M
         calm: 0,
         finds,
         first: None,
+        open_change: None,
+        origins: Vec::new(alloc),
         basis,
     })
 }

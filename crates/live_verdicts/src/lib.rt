@@ -14,6 +14,7 @@ mod later;
 mod live;
 mod mark;
 mod reaching;
+mod told;
 mod touched;
 mod unsure;
 

@@ -5,15 +5,17 @@ ghost use Rattle.ground_history.specs.Histories.{new_history};
 ghost use Rattle.ground_history.specs.Ground.{Ground};
 ghost use Rattle.definition_intervals.specs.Verdicts as verdicts;
 ghost use Rattle.live_verdicts.specs.Changes.{AreSameBelow, AreUnsureSame};
-ghost use Rattle.live_verdicts.specs.Marks.{AreListedBelow, IsNear, IsPlaceOf, StandsFor};
+ghost use Rattle.live_verdicts.specs.Marks.{AreListedBelow, ComesTo, IsNear, IsPlaceOf, StandsFor};
 ghost use Rattle.live_verdicts.specs.declared.mark.Mark as declared;
 
 use crate::behind::approach;
 use crate::counting::{ended_before, listed_below};
 use crate::forgetting::forget;
-use crate::held::{Asked, near_place};
+use crate::firm::is_untold;
+use crate::held::{Asked, coming_place, hold};
 use crate::mark::StructureMark;
 use crate::reaching::reach;
+use crate::told::told_mark;
 use definition_intervals::{
     Verdict, bases_decide, finds_give_bases, openings_are_found, verdict, verdict_on,
 };
@@ -109,14 +111,37 @@ fn place_for(
     requires listed { AreListedBelow history.now.history asked.tag asked.listed }
     requires order { asked.past ≤ asked.listed }
     ensures stands { StandsFor held.new.items history.now }
-    ensures near { IfOk result (λ found. IfSome found (IsPlaceOf (λ (m : declared.Mark). IsNear history.now.history asked.key m asked.listed asked.tag × (asked.listed ≤ m.calm)) asked.key held.new.items)) }
+    ensures near { IfOk result (λ found. IfSome found (IsPlaceOf (λ (m : declared.Mark). IsNear history.now.history asked.key m asked.listed asked.tag) asked.key held.new.items)) }
 {
-    let place = match near_place(held, history, asked) {
+    let place = match coming_place(held, history, asked) {
         Some(place) => place,
         None => match approach(alloc, held, history, asked)? {
             Some(place) => place,
             None => return Ok(None),
         },
     };
-    Ok(Some(reach(alloc, held, history, asked, place)?))
+    let place = reach(alloc, held, history, asked, place)?;
+    let place = with_told_states(alloc, held, history, asked, place)?;
+    Ok(Some(place))
+}
+
+/// The place of a mark with all states that were told before the reports, from one that comes to them and reaches the requests.
+fn with_told_states(
+    alloc: Global,
+    held: &mut Vec<StructureMark>,
+    history: &History,
+    asked: Asked,
+    place: usize,
+) -> Result<usize, Memory>
+    requires stands { StandsFor held.old.items history.now }
+    requires reaches { IsPlaceOf (λ (m : declared.Mark). ComesTo history.now.history m asked.listed asked.tag × (asked.listed ≤ m.calm)) asked.key held.old.items place }
+    ensures stands { StandsFor held.new.items history.now }
+    ensures near { IfOk result (IsPlaceOf (λ (m : declared.Mark). IsNear history.now.history asked.key m asked.listed asked.tag) asked.key held.new.items) }
+{
+    let mark = &held[place].mark;
+    if is_untold(history, asked.key, mark.tag, asked.tag) {
+        return Ok(place);
+    }
+    let told = told_mark(alloc, history, asked, mark)?;
+    hold(held, asked.key, told)
 }

@@ -17,6 +17,10 @@ pub(crate) struct Mark {
     pub finds: Vec<Option<Items<Option<Structure>>>>,
     /// The first open change of the latest opening.
     pub first: Option<u64>,
+    /// The first open change of the requests that haven't ended, which is that of an opening behind the others.
+    pub open_change: Option<u64>,
+    /// Some finds of which it is known what the requests that haven't ended make: it is among those that were found.
+    pub origins: Vec<Option<Items<Option<Structure>>>>,
     pub basis: Basis,
 }
 

@@ -1,6 +1,6 @@
 //! Marks that reach the requests that may have been executed below a tag.
 ghost use Rattle.std.specs.Prelude.{◌≡◌, ◌<◌, ◌≤◌, IfOk, length};
-ghost use Rattle.live_verdicts.specs.Marks.{IsNear, IsPlaceOf, StandsFor, calm_at};
+ghost use Rattle.live_verdicts.specs.Marks.{ComesTo, IsPlaceOf, StandsFor, calm_at};
 ghost use Rattle.live_verdicts.specs.declared.mark.Mark as declared;
 
 use crate::growing::{calm_until, grown};
@@ -10,7 +10,7 @@ use ground_history::History;
 use hk_base::Memory;
 use std::alloc::Global;
 
-/// The place of a mark that is near to the reports and reaches the requests that may have been executed, from one that is near.
+/// The place of a mark that comes to the reports and reaches the requests that may have been executed, from one that comes to them.
 pub(crate) fn reach(
     alloc: Global,
     held: &mut Vec<StructureMark>,
@@ -20,9 +20,9 @@ pub(crate) fn reach(
 ) -> Result<usize, Memory>
     requires stands { StandsFor held.old.items history.now }
     requires within { asked.listed ≤ length history.now.history.requests }
-    requires near { IsPlaceOf (λ (m : declared.Mark). IsNear history.now.history asked.key m asked.listed asked.tag) asked.key held.old.items place }
+    requires coming { IsPlaceOf (λ (m : declared.Mark). ComesTo history.now.history m asked.listed asked.tag) asked.key held.old.items place }
     ensures stands { StandsFor held.new.items history.now }
-    ensures near { IfOk result (IsPlaceOf (λ (m : declared.Mark). IsNear history.now.history asked.key m asked.listed asked.tag × (asked.listed ≤ m.calm)) asked.key held.new.items) }
+    ensures reaches { IfOk result (IsPlaceOf (λ (m : declared.Mark). ComesTo history.now.history m asked.listed asked.tag × (asked.listed ≤ m.calm)) asked.key held.new.items) }
 {
     let mut place = place;
     while held[place].mark.calm < asked.listed {
@@ -41,10 +41,10 @@ fn step(
 ) -> Result<usize, Memory>
     requires stands { StandsFor held.old.items history.now }
     requires within { asked.listed ≤ length history.now.history.requests }
-    requires near { IsPlaceOf (λ (m : declared.Mark). IsNear history.now.history asked.key m asked.listed asked.tag) asked.key held.old.items place }
+    requires coming { IsPlaceOf (λ (m : declared.Mark). ComesTo history.now.history m asked.listed asked.tag) asked.key held.old.items place }
     requires short { calm_at held.old.items place < asked.listed }
     ensures stands { StandsFor held.new.items history.now }
-    ensures near { IfOk result (IsPlaceOf (λ (m : declared.Mark). IsNear history.now.history asked.key m asked.listed asked.tag) asked.key held.new.items) }
+    ensures coming { IfOk result (IsPlaceOf (λ (m : declared.Mark). ComesTo history.now.history m asked.listed asked.tag) asked.key held.new.items) }
     ensures more { IfOk result (λ next. calm_at held.old.items place < calm_at held.new.items next) }
 {
     let mark = &held[place].mark;

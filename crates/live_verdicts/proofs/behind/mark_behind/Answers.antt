@@ -1,5 +1,5 @@
+use Rattle.std.proofs.Common.{arith, subst}
 use Rattle.live_verdicts.proofs.SplitLemmas.{holds-below}
-use Rattle.std.proofs.Common.{subst}
 use Rattle.live_verdicts.specs.Marks.{GoesOn, IsMark}
 use Rattle.live_verdicts.specs.declared.mark.Mark.{Mark}
 use Rattle.live_verdicts.specs.declared.mark.StructureMark.{StructureMark}
@@ -19,6 +19,6 @@ later_mark-requires-clause-mark c =
 
 pub returns-in-Some : goal.returns-in-Some
 returns-in-Some c =
-    λ near.
+    λ comes.
     c.in_ok-later.ensures.mark
-    (holds-below c.args.history.now.history c.in_ok-later.later c.in-Some.field-0.numbers.end c.args.asked.listed c.args.asked.tag c.in_ok-later.ensures.past c.in-Some.ensures.numbers.1 near.holds)
+    (holds-below c.args.history.now.history c.in_ok-later.later c.in-Some.field-0.numbers.end c.args.asked.listed c.args.asked.tag c.in_ok-later.ensures.past (let same = c.in-Some.ensures.numbers.1 in omega (arith, same, c.requires.order)) comes.holds)

@@ -21,7 +21,7 @@ returns-clause-mark c =
     let first = c.first_over-first.result in
     let formed = subst (λ (x : TailoringParts). All (IsFormedFound x) finds) c.tailoring.ensures.tailoring c.in_ok-finds.ensures.formed in
     let now : Mark =
-    record { tag = m.tag; opened = m.opened; past = m.past; listed = m.calm + 1; calm = m.calm + 1; finds = c.in_ok-finds.finds; first = first; basis = c.in_ok-basis.basis } in
+    record { tag = m.tag; opened = m.opened; past = m.past; listed = m.calm + 1; calm = m.calm + 1; finds = c.in_ok-finds.finds; first = first; open_change = c.first_over.result; origins = c.in_ok-copied_finds.field-0; basis = c.in_ok-basis.basis } in
     let is_formed : IsFormedMark t now =
     record {
       finds = formed;
@@ -30,4 +30,6 @@ returns-clause-mark c =
     } in
     grown-mark c.same_is_found.ensures g c.args.key starts m now c.requires.within refl refl refl refl
     (early-from _ t _ _ _ m.finds.items finds c.tailoring.ensures.tailoring (c.deref.ensures.value ∙ c.in_ok-requests.ensures.requests) c.deref-2.ensures.value c.in_ok-finds.ensures.alike)
-    (c.first_over-first.ensures ∙ ap (λ (cs : List Candidate). first_after_all cs m.first) (c.deref-3.ensures.value ∙ c.in_ok-requests.ensures.requests)) is_formed mark
+    (c.first_over-first.ensures ∙ ap (λ (cs : List Candidate). first_after_all cs m.first) (c.deref-3.ensures.value ∙ c.in_ok-requests.ensures.requests))
+    (c.first_over.ensures ∙ ap (λ (cs : List Candidate). first_after_all cs m.open_change) (c.deref-5.ensures.value ∙ c.in_ok-requests.ensures.requests))
+    (c.in_ok-copied_finds.ensures ∙ c.deref-6.ensures.value) is_formed mark

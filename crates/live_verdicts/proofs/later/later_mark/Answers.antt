@@ -56,6 +56,8 @@ returns-clause-mark c =
       calm = end;
       finds = c.in_ok-finding.finding.finds;
       first = last;
+      open_change = c.in_ok-first_open.field-0;
+      origins = c.new.result;
       basis = c.in_ok-basis.basis;
     } in
     let is_formed : IsFormedMark t now =
@@ -70,4 +72,4 @@ returns-clause-mark c =
       some = λ no. c.opened_at.ensures.some (λ e. no (sym (c.deref-6.ensures.value ∙ c.in_ok-starts.ensures) ∙ e));
     } in
     later-mark c.same_is_found.ensures g key m now tag n end early first grounded c.requires.mark c.requires.goes c.requires.order is is_formed refl refl c.mark_tag-tag.ensures.from c.mark_tag-tag.ensures.to
-    c.mark_tag-tag.ensures.untold opened holds
+    c.mark_tag-tag.ensures.untold opened c.new.ensures.items c.in_ok-first_open.ensures holds

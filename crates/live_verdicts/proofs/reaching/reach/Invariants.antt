@@ -1,5 +1,5 @@
 use Rattle.std.proofs.Common.{◌-◌}
-use Rattle.live_verdicts.specs.Marks.{IsNear, IsPlaceOf, StandsFor, calm_at}
+use Rattle.live_verdicts.specs.Marks.{ComesTo, IsPlaceOf, StandsFor, calm_at}
 use Rattle.live_verdicts.specs.declared.mark.Mark.{Mark}
 use Rattle.live_verdicts.proofs.reaching.reach.Given as goal
 
@@ -7,7 +7,7 @@ abbrev pub invariant-loop-alloc : goal.invariant-loop-alloc
 invariant-loop-alloc l =
     record {
       stands : StandsFor l.held.items l.history;
-      near : IsPlaceOf (λ (m : Mark). IsNear l.history.history l.asked.key m l.asked.listed l.asked.tag) l.asked.key l.held.items l.place;
+      coming : IsPlaceOf (λ (m : Mark). ComesTo l.history.history m l.asked.listed l.asked.tag) l.asked.key l.held.items l.place;
     }
 
 abbrev pub decreases-loop-alloc : goal.decreases-loop-alloc

@@ -20,11 +20,11 @@ returns-clause-verdict c =
     let asked = c.asked_on-asked.result in
     let held = c.place_for.new.held.items in
     let x = c.index.result.now in
-    let told = subst (λ (o : Option ℕ). IfSome o (IsPlaceOf (λ (m : Mark). IsNear h asked.key m asked.listed asked.tag × (asked.listed ≤ m.calm)) asked.key held)) c.in-Some.is c.in_ok-place.ensures.near in
-    let both = place-at (λ (m : Mark). IsNear h asked.key m asked.listed asked.tag × (asked.listed ≤ m.calm)) asked.key held c.in-Some.place x told c.index.ensures in
+    let told = subst (λ (o : Option ℕ). IfSome o (IsPlaceOf (λ (m : Mark). IsNear h asked.key m asked.listed asked.tag) asked.key held)) c.in-Some.is c.in_ok-place.ensures.near in
+    let both = place-at (λ (m : Mark). IsNear h asked.key m asked.listed asked.tag) asked.key held c.in-Some.place x told c.index.ensures in
     let mark = held-mark g asked.key held c.in-Some.place x c.in_ok-place.ensures.stands told.0 c.index.ensures both.0 in
     let grounded = c.tailoring-tailoring.ensures.grounded in
-    let basis = near-basis c.openings_are_found.ensures c.finds_give_bases.ensures g asked.key x.mark asked.listed asked.tag grounded mark both.1.0 both.1.1
+    let basis = near-basis c.openings_are_found.ensures c.finds_give_bases.ensures g asked.key x.mark asked.listed asked.tag grounded mark both.1
     (subst (λ tag. AreListedBelow h tag asked.listed) (sym c.asked_on-asked.ensures.same.1) c.asked_on-asked.ensures.listed) in
     let own =
     subst (λ tag. IsBasis t (openings t h c.args.key tag) x.mark.basis) c.asked_on-asked.ensures.same.1

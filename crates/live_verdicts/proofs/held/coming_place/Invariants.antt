@@ -1,5 +1,5 @@
 use Rattle.std.proofs.Common.{◌≤◌, length}
-use Rattle.live_verdicts.proofs.held.near_place.Given as goal
+use Rattle.live_verdicts.proofs.held.coming_place.Given as goal
 
 abbrev pub invariant-loop-end : goal.invariant-loop-end
 invariant-loop-end l = l.end ≤ length l.held

@@ -1,0 +1,6 @@
+use Rattle.std.proofs.Common.{◌≡◌}
+use Rattle.live_verdicts.specs.Changes as changes
+use Rattle.live_verdicts.proofs.unsure.unsures.Given as goal
+
+abbrev pub invariant-loop-number : goal.invariant-loop-number
+invariant-loop-number l = l.requests.items ≡ changes.unsures l.history.history l.key l.fn.numbers.first l.number

@@ -17,7 +17,6 @@ use Rattle.opening_sweeps.specs.Requests.{Start, told_start, told_starts, IsForm
 use Rattle.opening_sweeps.proofs.GatherLemmas.{IsNext}
 use Rattle.live_verdicts.specs.Changes.{told_start_below}
 use Rattle.live_verdicts.specs.Marks.{among, told_between}
-use Rattle.live_verdicts.specs.Changes.{unsure, unsures}
 use Rattle.live_verdicts.proofs.SplitLemmas.{taken-in, dropped-in}
 use Rattle.live_verdicts.proofs.ToldLemmas.{from_tag}
 

@@ -1,6 +1,6 @@
 -- Marks that hold of more requests.
-use Rattle.std.proofs.Common.{arith, ◌≡◌, ℕ, zero, suc, ◌+◌, ◌<◌, ◌≤◌, refl, sym, ◌∙◌, ap, subst, List, [], ◌∷◌, ◌++◌, length, map, take, drop, get_or, Bool, true, false, inl, inr, ◌⊎◌, Option, Some, None, IfSome, option_to_list, append_assoc, append-nil}
-use Rattle.std.specs.Prelude.{filter_map, slice_get, option_map, option_and_then, not, if◌then◌else◌}
+use Rattle.std.proofs.Common.{arith, ◌≡◌, ℕ, zero, suc, ◌+◌, ◌<◌, ◌≤◌, refl, sym, ◌∙◌, ap, subst, List, [], ◌∷◌, ◌++◌, length, map, take, drop, get_or, Bool, true, false, inl, inr, ◌⊎◌, Option, Some, None, IfSome, append_assoc, append-nil}
+use Rattle.std.specs.Prelude.{slice_get, option_map, option_and_then, not, if◌then◌else◌}
 use Rattle.std.specs.List.{All, AllByRecursion, enumerate_from}
 use Rattle.std.proofs.lemmas.List.{take_more}
 use Rattle.std.proofs.lemmas.List.Elements.{All-push, All-from_recursion, recursion_from_All}
@@ -18,7 +18,7 @@ use Rattle.ground_history.specs.Evidence.{is_barred, outcome}
 use Rattle.ground_history.specs.Ground.{Ground, IsGrounded}
 use Rattle.definition_intervals.specs.Openings.{Candidate}
 use Rattle.definition_intervals.specs.Findings.{IsFormedCandidate}
-use Rattle.definition_intervals.specs.Founds.{found_after, found_after_all, first_after_all, AreSameFound, SameIsFound, ChangesAreFormed, IsFormedFound}
+use Rattle.definition_intervals.specs.Founds.{found_after, found_after_all, first_after_all, AreSameFound, SameIsFound, ChangesAreFormed}
 use Rattle.definition_intervals.proofs.GatherLemmas.{numbered-IsIn}
 use Rattle.opening_sweeps.specs.Requests.{Start}
 use Rattle.opening_sweeps.proofs.FoldLemmas.{same-refl, same-sym, same-trans, after_all-same, after_all-append, first_all-append}
@@ -27,7 +27,7 @@ use Rattle.live_verdicts.specs.Changes.{unsure, unsures}
 use Rattle.live_verdicts.specs.Marks.{found_at, first_found, first_at, AreAlike, AreFound, AreKnown, HasSame, IsFormedMark, IsMarkOf, Leaves, among, passed, with_calm}
 use Rattle.live_verdicts.specs.declared.mark.Mark.{Mark}
 use Rattle.live_verdicts.proofs.AmongLemmas.{next-numbered}
-use Rattle.live_verdicts.proofs.SplitLemmas.{between-append, nothing-between, taken-in, dropped-in}
+use Rattle.live_verdicts.proofs.SplitLemmas.{between-append, taken-in, dropped-in}
 use Rattle.live_verdicts.proofs.FindLemmas.{has-in, in-has, alike-covered, covered-alike, alike-trans, alike-after}
 use Rattle.live_verdicts.proofs.MarkLemmas.{map-same, map-twice}
 

@@ -1,12 +1,10 @@
 -- Marks that are held while more is known.
-use Rattle.std.proofs.Common.{arith, ◌≡◌, ℕ, zero, suc, ◌+◌, ◌<◌, ◌≤◌, refl, sym, ◌∙◌, ap, subst, List, [], ◌∷◌, ◌++◌, length, map, take, drop, get_or, Bool, true, false, inl, inr, ◌⊎◌, Option, Some, None, append-nil}
-use Rattle.std.specs.Prelude.{filter, filter_map, slice_get, nat_lt, min, option_map, option_and_then, if◌then◌else◌}
-use Rattle.std.specs.Option.{option_map_or}
-use Rattle.std.specs.List.{All, HoldsAt, cons_option, enumerate_from}
+use Rattle.std.proofs.Common.{arith, ◌≡◌, ℕ, ◌+◌, ◌<◌, ◌≤◌, refl, sym, ◌∙◌, ap, subst, List, [], ◌∷◌, ◌++◌, length, take, drop, get_or, Bool, true, false, inl, inr, Option, Some, None, append-nil}
+use Rattle.std.specs.Prelude.{filter, filter_map, nat_lt, option_map, option_and_then, if◌then◌else◌}
+use Rattle.std.specs.List.{cons_option, enumerate_from}
 use Rattle.std.proofs.lemmas.Bool.{lt-ltb, le-ltb}
 use Rattle.std.proofs.lemmas.List.Elements.{All-push, filter_map-append}
-use Rattle.std.proofs.lemmas.List.{get_or-take, get_or-drop, length-take-le, length-drop, take-append-drop}
-use Rattle.hk_base.specs.TailoringParts.{TailoringParts}
+use Rattle.std.proofs.lemmas.List.{get_or-drop, length-drop, take-append-drop}
 use Rattle.hk_base.specs.declared.types.Key.{Key}
 use Rattle.hk_base.specs.Parameters.{key_eq, boot_structure}
 use Rattle.hk_base.proofs.Membership.{some_value, IsIn}
@@ -14,14 +12,13 @@ use Rattle.st03_grammar.specs.Instructions.{StructureChange}
 use Rattle.pus_messages.specs.Changes.{change_by}
 use Rattle.ground_history.specs.Histories.{Sent, History}
 use Rattle.ground_history.specs.Evidence.{outcome}
-use Rattle.ground_history.specs.Ground.{Ground, IsGrounded}
+use Rattle.ground_history.specs.Ground.{Ground}
 use Rattle.definition_intervals.specs.Openings.{Candidate, candidate, candidates, is_possible, is_certain}
-use Rattle.definition_intervals.specs.Founds.{IsFormedFound, first_after_all}
-use Rattle.definition_intervals.specs.Bases.{IsFormedBasis}
+use Rattle.definition_intervals.specs.Founds.{first_after_all}
 use Rattle.definition_intervals.proofs.StateLemmas.{key_eq-same}
-use Rattle.opening_sweeps.specs.Requests.{Start, boot_starts}
+use Rattle.opening_sweeps.specs.Requests.{boot_starts}
 use Rattle.live_verdicts.specs.Changes.{IsBelow, IsUpTo, AreSameBelow, AreUnsureSame, told_below, unsures}
-use Rattle.live_verdicts.specs.Marks.{starts_below, among, passed, AreFound, AreKnown, IsFormedMark, IsMarkOf, IsMark, IsKept, StandsFor, narrowed_to, with_calm, IsPlaceOf, calm_at}
+use Rattle.live_verdicts.specs.Marks.{starts_below, among, passed, AreFound, AreKnown, IsFormedMark, IsMark, IsKept, StandsFor, narrowed_to, with_calm, IsPlaceOf}
 use Rattle.live_verdicts.specs.declared.mark.Mark.{Mark}
 use Rattle.live_verdicts.specs.declared.mark.StructureMark.{StructureMark}
 use Rattle.live_verdicts.proofs.SplitLemmas.{taken-below, dropped-above}

@@ -2,7 +2,7 @@
 use Rattle.std.proofs.Common.{arith, ◌≡◌, ℕ, ◌<◌, ◌≤◌, refl, sym, ◌∙◌, ap, subst, List, [], ◌∷◌, ◌++◌, length, map, Bool, true, false, inl, inr, Option, Some, None, IfSome, option_to_list, append_assoc, append-nil, ◌⊎◌}
 use Rattle.std.proofs.lemmas.List.{map-append}
 use Rattle.std.specs.Prelude.{filter, filter_map, nat_lt, nat_le, option_map, unwrap_or, if◌then◌else◌}
-use Rattle.std.specs.List.{All, IsDistinct, cons_option, enumerate_from}
+use Rattle.std.specs.List.{All, IsDistinct, cons_option}
 use Rattle.std.proofs.lemmas.List.Elements.{All-from_recursion, All-weaker}
 use Rattle.std.proofs.lemmas.Bool.{leb-true, ltb-true, le-ltb}
 use Rattle.hk_base.specs.TailoringParts.{TailoringParts}
@@ -12,7 +12,7 @@ use Rattle.hk_base.specs.declared.types.Structure.{Structure}
 use Rattle.hk_base.proofs.Membership.{some_value, IsIn, IsIn-append, IsIn-filter, IsIn-filter_map, AllByRecursion-IsIn, IsIn-AllByRecursion}
 use Rattle.ground_history.specs.Histories.{Kept, History, tag_of}
 use Rattle.ground_history.specs.Ground.{Ground, IsGrounded, HaveRisingTags, newest_told}
-use Rattle.definition_intervals.specs.Openings.{Candidate, candidate, candidates, openings, opening, report_opening, reported_structure}
+use Rattle.definition_intervals.specs.Openings.{Candidate, candidates, openings, opening, report_opening, reported_structure}
 use Rattle.definition_intervals.specs.Bases.{IsBasis, IsFormedBasis}
 use Rattle.definition_intervals.specs.Founds.{found_after_all, first_after_all, IsFormedFound, IsBasisOf, OpeningsAreFound, SameIsFound, FindsGiveBases}
 use Rattle.definition_intervals.specs.Verdicts.{named_request}
@@ -24,9 +24,9 @@ use Rattle.opening_sweeps.proofs.FoldLemmas.{after_all-append, first_all-append}
 use Rattle.opening_sweeps.proofs.ListLemmas.{opening_of, all-found, last_start, AreInOrder, named-last}
 use Rattle.opening_sweeps.proofs.BasisLemmas.{basis-covered}
 use Rattle.live_verdicts.specs.Changes.{told_start_below, told_below, unsures}
-use Rattle.live_verdicts.specs.Marks.{starts_below, found_at, first_found, first_at, AreAlike, AreFound, AreKnown, IsFormedMark, IsMarkOf, IsMark, HavePassed, ArePending, HoldsFor, GoesOn, ComesTo, IsNear, AreListedBelow, among, passed, told_between, found_by, first_by}
+use Rattle.live_verdicts.specs.Marks.{starts_below, found_at, first_found, first_at, AreAlike, AreFound, AreKnown, IsFormedMark, IsMark, HavePassed, ArePending, HoldsFor, GoesOn, ComesTo, IsNear, AreListedBelow, among, passed, told_between, found_by, first_by}
 use Rattle.live_verdicts.specs.declared.mark.Mark.{Mark}
-use Rattle.live_verdicts.proofs.SplitLemmas.{candidates-front, open-same, passed-same, passed-split, passed-behind, passed-later, late-none}
+use Rattle.live_verdicts.proofs.SplitLemmas.{candidates-front, open-same, passed-same, passed-split, passed-behind, passed-later}
 use Rattle.live_verdicts.proofs.SameLemmas.{filter_map-none}
 use Rattle.live_verdicts.proofs.ToldLemmas.{told-split, told-after}
 use Rattle.live_verdicts.proofs.FindLemmas.{alike-covered, alike-refl, alike-trans, alike-after}

@@ -1,6 +1,6 @@
 -- The requests before a mark's tag, and those behind it.
 use Rattle.std.proofs.Common.{arith, ◌≡◌, ℕ, zero, suc, ◌+◌, ◌<◌, ◌≤◌, refl, sym, ◌∙◌, ap, subst, List, [], ◌∷◌, ◌++◌, take, drop, Bool, true, false, length, inl, inr, ◌⊎◌, Option, Some, None, append-nil}
-use Rattle.std.specs.Prelude.{filter_map, nat_lt, nat_le, not, ◌&&◌, ◌||◌, IfSome, IsSomeAnd, option_map, option_and_then, if◌then◌else◌}
+use Rattle.std.specs.Prelude.{filter_map, nat_le, not, ◌&&◌, ◌||◌, IfSome, IsSomeAnd, option_map, option_and_then, if◌then◌else◌}
 use Rattle.std.specs.List.{enumerate_from}
 use Rattle.std.proofs.lemmas.Bool.{le-leb, leb-true, leb-false, lt-leb, both_ways}
 use Rattle.std.proofs.lemmas.List.{take-append-drop, drop_all}

@@ -37,8 +37,7 @@ pub(crate) fn told_mark(
     requires mark { IsMark history.now asked.key mark.now }
     requires coming { ComesTo history.now.history mark.now asked.listed asked.tag }
     requires reaches { asked.listed ≤ mark.now.calm }
-    ensures mark { IfOk result (IsMark history.now asked.key) }
-    ensures near { IfOk result (λ told. IsNear history.now.history asked.key told asked.listed asked.tag) }
+    ensures { IfOk result (λ told. IsMark history.now asked.key told × IsNear history.now.history asked.key told asked.listed asked.tag) }
 {
     // Laws: they say that the same is found of the same, and do nothing.
     same_is_found();

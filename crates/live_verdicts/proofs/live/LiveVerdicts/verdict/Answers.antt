@@ -1,13 +1,12 @@
-use Rattle.std.proofs.Common.{◌≡◌, ◌≤◌, ℕ, Option, sym, subst}
+use Rattle.std.proofs.Common.{◌≡◌, ℕ, Option, sym, subst}
 use Rattle.std.specs.Prelude.{IfOk, IfSome}
 use Rattle.hk_base.specs.TailoringParts.{TailoringParts}
 use Rattle.definition_intervals.specs.Openings.{openings}
 use Rattle.definition_intervals.specs.Bases.{IsBasis}
 use Rattle.definition_intervals.specs.Verdicts.{verdict_of}
 use Rattle.definition_intervals.specs.declared.answer.Verdict.{Verdict}
-use Rattle.live_verdicts.specs.Marks.{AreListedBelow, IsNear, IsPlaceOf, StandsFor}
+use Rattle.live_verdicts.specs.Marks.{AreListedBelow, IsNear, IsPlaceOf}
 use Rattle.live_verdicts.specs.declared.mark.Mark.{Mark}
-use Rattle.live_verdicts.specs.declared.mark.StructureMark.{StructureMark}
 use Rattle.live_verdicts.proofs.HeldLemmas.{place-at, held-mark}
 use Rattle.live_verdicts.proofs.MarkLemmas.{near-basis}
 use Rattle.live_verdicts.proofs.live.LiveVerdicts.verdict.Goals as goal

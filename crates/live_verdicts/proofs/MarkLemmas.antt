@@ -293,8 +293,7 @@ opened-told g key m now tag grounded mark from to untold is = go (told_between g
     go : (ss : List Start) → told_between h key m.tag tag ≡ ss → (now.opened ≤ now.tag) × (told_below h key now.tag ≡ told_below h key now.opened)
     go [] e =
         let same = is.none e in
-        let below = mark.opened in
-        (
+        let below = mark.opened in (
           omega (arith, same, below, from),
           sym untold
               ∙ (told-split h key m.tag tag grounded.tags (omega (arith, from, to))
@@ -437,13 +436,12 @@ told-found g key m now listed tag grounded mark comes reaches is = record { find
 pub told-mark : (g : Ground) (key : Key) (m now : Mark) (listed tag : ℕ) → IsGrounded g → IsMark g key m → ComesTo g.history m listed tag → listed ≤ m.calm → IsFormedMark g.tailoring now
     → now.past ≡ m.past → now.listed ≡ listed → now.calm ≡ listed → now.open_change ≡ m.open_change → m.tag ≤ now.tag → now.tag ≤ tag → (newest_told g.history.kept < now.tag) ⊎ (now.tag ≡ tag)
     → IsOpened g key m now (told_between g.history key m.tag tag) → IsTold g key m now listed tag → IsMark g key now × IsNear g.history key now listed tag
-told-mark g key m now listed tag grounded mark comes reaches formed past is calm change from to untold opened told =
-    (
-      mark-at g key m now tag listed grounded mark formed is calm from to untold opened holds (told-found g key m now listed tag grounded mark comes reaches told)
-          (subst (λ p. AreKnown g.tailoring (unsures h key p listed) now.origins.items now.finds.items) (sym past) told.known)
-          (change ∙ (mark.mark.open_change listed comes.from reaches ∙ ap (λ p. first_after_all (unsures h key p listed) None) (sym past))),
-      record { comes = record { from = omega (arith, is); holds = holds }; reaches = omega (arith, calm); untold = untold-same g key now.tag tag grounded to untold },
-    )
+told-mark g key m now listed tag grounded mark comes reaches formed past is calm change from to untold opened told = (
+  mark-at g key m now tag listed grounded mark formed is calm from to untold opened holds (told-found g key m now listed tag grounded mark comes reaches told)
+      (subst (λ p. AreKnown g.tailoring (unsures h key p listed) now.origins.items now.finds.items) (sym past) told.known)
+      (change ∙ (mark.mark.open_change listed comes.from reaches ∙ ap (λ p. first_after_all (unsures h key p listed) None) (sym past))),
+  record { comes = record { from = omega (arith, is); holds = holds }; reaches = omega (arith, calm); untold = untold-same g key now.tag tag grounded to untold },
+)
   where
     h : History
     h = g.history

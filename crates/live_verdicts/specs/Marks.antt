@@ -14,8 +14,11 @@ use Rattle.definition_intervals.specs.Founds.{found_after, found_after_all, firs
 use Rattle.definition_intervals.specs.Bases.{IsFormedBasis}
 use Rattle.opening_sweeps.specs.Requests.{Start, boot_starts}
 use Rattle.live_verdicts.specs.Changes.{told_below, told_start_below, unsures, IsBelow, IsUpTo}
+use Rattle.live_verdicts.specs.declared.between.Numbers.{Numbers}
+use Rattle.live_verdicts.specs.declared.held.Asked.{Asked}
 use Rattle.live_verdicts.specs.declared.mark.Mark.{Mark}
 use Rattle.live_verdicts.specs.declared.mark.StructureMark.{StructureMark}
+use Rattle.live_verdicts.specs.declared.told.Told.{Told}
 
 -- the states of a structure that open below a tag, in the order of their tags
 abbrev pub starts_below : TailoringParts → History → Key → ℕ → List Start
@@ -64,9 +67,21 @@ pub record IsFormedMark (t : TailoringParts) (m : Mark) : Type 0 where
   pub basis : IsBasisOf m.finds.items (unwrap_or m.first 0) m.basis
   pub valid : IsFormedBasis t m.basis
 
+-- what is found of openings
+abbrev pub Finds : Type 0
+Finds = List (Option (List (Option Structure)))
+
+-- what is found of a state by requests with some numbers that haven't ended
+abbrev pub found_behind : Ground → Key → Numbers → Start → Option (List (Option Structure))
+found_behind g key numbers s = found_at g.tailoring (λ tag. unsures g.history key numbers.first numbers.end) s
+
 -- what requests make of each of some finds is among others
 abbrev pub AreKnown : TailoringParts → List Candidate → List (Option (List (Option Structure))) → List (Option (List (Option Structure))) → Type 0
 AreKnown t requests origins finds = AllByRecursion (λ f. HasSame finds (found_after_all t requests f)) origins
+
+-- the same of requests with some numbers that haven't ended
+abbrev pub AreKnownBehind : Ground → Key → Numbers → Told → Type 0
+AreKnownBehind g key numbers told = AreKnown g.tailoring (unsures g.history key numbers.first numbers.end) told.origins.items told.finds.items
 
 -- A mark holds what is found of openings by the requests that have passed at its tag and those behind them, whatever number those are below, within its range.
 pub record IsMarkOf (g : Ground) (key : Key) (starts : List Start) (m : Mark) : Type 0 where
@@ -156,6 +171,10 @@ first_by h key tag first end (s ∷ ss) given = first_by h key tag first end ss 
 abbrev pub with_calm : Mark → ℕ → Mark
 with_calm m calm = record m { calm = calm }
 
+-- a mark holds up to another number too
+abbrev pub IsCalmTo : Ground → Key → Mark → ℕ → Type 0
+IsCalmTo g key m calm = (starts : List Start) → IsMarkOf g key starts m → IsMarkOf g key starts (with_calm m calm)
+
 -- a mark that goes on to the request where another ends
 pub record IsGrown (m later : Mark) : Type 0 where
   pub tag : later.tag ≡ m.tag
@@ -182,6 +201,18 @@ IsKept m from touched = IsBelow m.tag from × IsUpTo m.listed touched
 -- the place of a mark of a structure that is as wanted, among those that are held
 abbrev pub IsPlaceOf : (Mark → Type 0) → Key → List StructureMark → ℕ → Type 0
 IsPlaceOf Wanted key held place = (place < length held) × HoldsAt (λ x. (key_eq x.key key ≡ true) × Wanted x.mark) held place
+
+-- the place of a mark of a structure that comes to reports
+abbrev pub IsComingAt : History → Asked → List StructureMark → ℕ → Type 0
+IsComingAt h asked held place = IsPlaceOf (λ m. ComesTo h m asked.listed asked.tag) asked.key held place
+
+-- .. and reaches the requests that may have been executed
+abbrev pub IsReachingAt : History → Asked → List StructureMark → ℕ → Type 0
+IsReachingAt h asked held place = IsPlaceOf (λ m. ComesTo h m asked.listed asked.tag × (asked.listed ≤ m.calm)) asked.key held place
+
+-- .. and whose basis is that of verdicts on them
+abbrev pub IsNearAt : History → Asked → List StructureMark → ℕ → Type 0
+IsNearAt h asked held place = IsPlaceOf (λ m. IsNear h asked.key m asked.listed asked.tag) asked.key held place
 
 -- up to which number a mark holds, by its place among those that are held
 abbrev pub calm_at : List StructureMark → ℕ → ℕ

@@ -1,6 +1,6 @@
 //! From marks on to reports behind them.
 ghost use Rattle.std.specs.Prelude.{◌≡◌, ◌<◌, ◌≤◌, IfOk, IfSome, length};
-ghost use Rattle.live_verdicts.specs.Marks.{ComesTo, GoesOn, IsMark, IsPlaceOf, StandsFor};
+ghost use Rattle.live_verdicts.specs.Marks.{ComesTo, GoesOn, IsComingAt, IsMark, IsPlaceOf, StandsFor};
 ghost use Rattle.live_verdicts.specs.declared.mark.Mark as declared;
 
 use crate::between::Numbers;
@@ -30,7 +30,7 @@ pub(crate) fn approach(
     requires order { asked.past ≤ asked.listed }
     requires within { asked.listed ≤ length history.now.history.requests }
     ensures stands { StandsFor held.new.items history.now }
-    ensures coming { IfOk result (λ found. IfSome found (IsPlaceOf (λ (m : declared.Mark). ComesTo history.now.history m asked.listed asked.tag) asked.key held.new.items)) }
+    ensures coming { IfOk result (λ found. IfSome found (IsComingAt history.now.history asked held.new.items)) }
 {
     let Some(mark) = mark_behind(alloc, held, history, asked)? else {
         return Ok(None);
@@ -78,7 +78,8 @@ fn mark_from_start(alloc: Global, history: &History, asked: Asked) -> Result<Opt
 
 /// The last mark from which verdicts go on.
 fn place_behind(held: &[StructureMark], history: &History, asked: Asked) -> Option<Behind>
-    ensures place { IfSome result (λ behind. IsPlaceOf (λ (m : declared.Mark). GoesOn history.now.history m behind.numbers.first asked.tag) asked.key held.now behind.place) }
+    ensures place { IfSome result (λ behind.
+        IsPlaceOf (λ (m : declared.Mark). GoesOn history.now.history m behind.numbers.first asked.tag) asked.key held.now behind.place) }
     ensures numbers { IfSome result (λ behind. (behind.numbers.first ≤ behind.numbers.end) × (behind.numbers.end ≡ asked.past)) }
 {
     let mut end = held.len();

@@ -2,7 +2,6 @@
 ghost use Rattle.std.specs.Prelude.{◌≡◌, ◌≤◌, IfOk, All, length};
 ghost use Rattle.ground_history.specs.Ground.{IsGrounded};
 ghost use Rattle.definition_intervals.specs.Findings.{IsFormedCandidate};
-ghost use Rattle.opening_sweeps.specs.Requests.{IsFormedStart};
 ghost use Rattle.live_verdicts.specs.Changes as changes;
 ghost use Rattle.live_verdicts.specs.Marks as marks;
 ghost use Rattle.ground_history.specs.Histories.{Kept};

@@ -2,7 +2,7 @@
 ghost use Rattle.std.specs.Prelude.{◌≡◌, ◌<◌, ◌≤◌, ◌+◌, ℕ, List, IfSome, true, is_some, length, max};
 ghost use Rattle.pus_messages.specs.Messages.{protocol};
 ghost use Rattle.ground_history.specs.Evidence.{floor, high, low};
-ghost use Rattle.ground_history.specs.Histories.{got_kind, history_with_got, with_sent, tag_of};
+ghost use Rattle.ground_history.specs.Histories.{got_kind, history_with_got, with_sent};
 ghost use Rattle.ground_history.specs.Indexes as indexes;
 ghost use Rattle.pus_messages.specs.declared.message.ReportBody.TheVariants.{Verify};
 ghost use Rattle.ground_history.specs.Ground.{Ground, IsGrounded, with_history, tells_structure};
@@ -16,7 +16,8 @@ use st03_grammar::Report03;
 
 /// The first tag of the reports on which verdicts may have changed since a new request was sent; None where there is none.
 pub fn changed_by_sent(history: &History) -> Option<u64>
-    ensures { (g : Ground) (packet : List ℕ) → history.now ≡ with_history g (with_sent (protocol g.tailoring) g.history packet) → AreSameBelow result g history.now }
+    ensures { (g : Ground) (packet : List ℕ) → history.now ≡ with_history g (with_sent (protocol g.tailoring) g.history packet)
+        → AreSameBelow result g history.now }
 {
     let count = history.count();
     if count == 0 {

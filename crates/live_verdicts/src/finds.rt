@@ -1,5 +1,5 @@
 //! What is found of openings, each find once.
-ghost use Rattle.std.specs.Prelude.{◌≡◌, true, ◌++◌, ◌∷◌, [], List, Option, Some, IfOk, OnOk, IfSome, All, map, unwrap_or, length, ◌≤◌};
+ghost use Rattle.std.specs.Prelude.{◌≡◌, true, ◌++◌, ◌∷◌, [], List, Option, Some, IfOk, OnOk, IfSome, All, map, unwrap_or};
 ghost use Rattle.std.specs.Option.{option_copied};
 ghost use Rattle.std.specs.List.{IsDistinct};
 ghost use Rattle.hk_base.specs.TailoringParts.{TailoringParts};
@@ -9,7 +9,7 @@ ghost use Rattle.definition_intervals.specs.States.{state_eq};
 ghost use Rattle.definition_intervals.specs.Findings.{IsFormedCandidate};
 ghost use Rattle.definition_intervals.specs.Bases.{IsFormedBasis};
 ghost use Rattle.definition_intervals.specs.Founds.{found_after_all, first_after_all, AreSameFound, IsFormedFound, IsCommon, IsBasisOf};
-ghost use Rattle.live_verdicts.specs.Marks.{AreAlike, HasSame};
+ghost use Rattle.live_verdicts.specs.Marks.{AreAlike, Finds, HasSame};
 
 use definition_intervals::{
     Basis, Candidate, copied_found, copied_state, found_after, is_same_found, narrowed_by_found,
@@ -117,9 +117,10 @@ pub(crate) fn add_find(
     found: Option<Items<Option<Structure>>>,
     finds: &mut Vec<Option<Items<Option<Structure>>>>,
 ) -> Result<(), Memory>
-    ensures alike { OnOk result ((fs : List (Option (List (Option Structure)))) (f : Option (List (Option Structure))) → AreSameFound found f
+    ensures alike { OnOk result ((fs : Finds) (f : Option (List (Option Structure))) → AreSameFound found f
         → AreAlike fs finds.old.items → AreAlike (fs ++ f ∷ []) finds.new.items) }
-    ensures formed { OnOk result ((t : TailoringParts) → IsFormedFound t found → All (IsFormedFound t) finds.old.items → All (IsFormedFound t) finds.new.items) }
+    ensures formed { OnOk result ((t : TailoringParts) → IsFormedFound t found → All (IsFormedFound t) finds.old.items
+        → All (IsFormedFound t) finds.new.items) }
 {
     if has_same(finds, &found) {
         return Ok(());

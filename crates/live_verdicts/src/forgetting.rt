@@ -1,18 +1,16 @@
 //! Which marks stay while entries come.
-ghost use Rattle.std.specs.Prelude.{◌≡◌, ◌≤◌, true, List, All};
-ghost use Rattle.hk_base.specs.declared.types.Key as declared_key;
+ghost use Rattle.std.specs.Prelude.{◌≡◌, true};
 ghost use Rattle.ground_history.specs.Ground.{Ground};
-ghost use Rattle.opening_sweeps.specs.Requests.{Start};
 ghost use Rattle.live_verdicts.specs.Changes.{AreSameBelow, AreUnsureSame, IsBelow, IsUpTo};
-ghost use Rattle.live_verdicts.specs.Marks.{IsKept, StandsFor, with_calm, narrowed_to};
-ghost use Rattle.live_verdicts.specs.declared.mark.Mark as declared;
+ghost use Rattle.live_verdicts.specs.Marks.{IsKept, StandsFor, narrowed_to};
 
 use crate::mark::{Mark, StructureMark};
 
 /// Gives up the marks that rest on tags from which on something may have changed, or on requests that were touched, and narrows the others to the
 /// requests before those.
 pub(crate) fn forget(held: &mut Vec<StructureMark>, from: Option<u64>, touched: Option<u64>)
-    ensures { (g later : Ground) → StandsFor held.old.items g → AreSameBelow from g later → AreUnsureSame touched g later → StandsFor held.new.items later }
+    ensures { (g later : Ground) → StandsFor held.old.items g → AreSameBelow from g later → AreUnsureSame touched g later
+        → StandsFor held.new.items later }
 {
     let mut place = 0;
     while place < held.len() {

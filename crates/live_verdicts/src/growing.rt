@@ -1,10 +1,9 @@
 //! Marks that hold of more requests.
 ghost use Rattle.std.specs.Prelude.{◌≡◌, ◌≤◌, ◌<◌, true, List, IfOk, All, length};
-ghost use Rattle.hk_base.specs.TailoringParts.{TailoringParts};
 ghost use Rattle.definition_intervals.specs.Findings.{IsFormedCandidate};
 ghost use Rattle.definition_intervals.specs.Founds.{AreSameFound, IsFormedFound, found_after, first_after};
 ghost use Rattle.opening_sweeps.specs.Requests.{Start};
-ghost use Rattle.live_verdicts.specs.Marks.{IsMarkOf, IsFormedMark, IsGrown, Leaves, with_calm};
+ghost use Rattle.live_verdicts.specs.Marks.{IsCalmTo, IsMarkOf, IsFormedMark, IsGrown, Leaves};
 
 use crate::finds::{basis_of_finds, copied_finds, finds_over, first_over};
 use crate::mark::Mark;
@@ -26,7 +25,7 @@ pub(crate) fn calm_until(
     requires order { mark.now.calm ≤ end }
     requires within { end ≤ length history.now.history.requests }
     requires formed { IsFormedMark history.now.tailoring mark.now }
-    ensures calm { IfOk result (λ calm. (starts : List Start) → IsMarkOf history.now key starts mark.now → IsMarkOf history.now key starts (with_calm mark.now calm)) }
+    ensures calm { IfOk result (IsCalmTo history.now key mark.now) }
     ensures within { IfOk result (λ calm. (mark.now.calm ≤ calm) × (calm ≤ end)) }
 {
     // A law: it says that the same is found of the same, and does nothing.
@@ -105,12 +104,7 @@ fn leaves_finds(
 }
 
 /// The mark that holds with the request where a mark ends.
-pub(crate) fn grown(
-    alloc: Global,
-    history: &History,
-    key: Key,
-    mark: &Mark,
-) -> Result<Mark, Memory>
+pub(crate) fn grown(alloc: Global, history: &History, key: Key, mark: &Mark) -> Result<Mark, Memory>
     requires within { mark.now.calm < length history.now.history.requests }
     requires formed { IsFormedMark history.now.tailoring mark.now }
     ensures grown { IfOk result (IsGrown mark.now) }

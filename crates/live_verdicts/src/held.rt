@@ -1,8 +1,8 @@
 //! The marks that are held.
-ghost use Rattle.std.specs.Prelude.{◌≡◌, ◌<◌, ◌≤◌, true, ℕ, IfOk, IfSome, length};
+ghost use Rattle.std.specs.Prelude.{◌≡◌, ◌<◌, true, IfOk, IfSome};
 ghost use Rattle.hk_base.specs.Parameters.{key_eq};
 ghost use Rattle.ground_history.specs.Ground.{Ground};
-ghost use Rattle.live_verdicts.specs.Marks.{ComesTo, IsMark, IsPlaceOf, StandsFor};
+ghost use Rattle.live_verdicts.specs.Marks.{ComesTo, IsComingAt, IsMark, IsPlaceOf, StandsFor};
 ghost use Rattle.live_verdicts.specs.declared.mark.Mark as declared;
 
 use crate::firm::comes_to;
@@ -26,7 +26,7 @@ pub(crate) struct Asked {
 
 /// The place of the last mark that comes to the reports.
 pub(crate) fn coming_place(held: &[StructureMark], history: &History, asked: Asked) -> Option<usize>
-    ensures { IfSome result (IsPlaceOf (λ (m : declared.Mark). ComesTo history.now.history m asked.listed asked.tag) asked.key held.now) }
+    ensures { IfSome result (IsComingAt history.now.history asked held.now) }
 {
     let mut end = held.len();
     while end > 0 {

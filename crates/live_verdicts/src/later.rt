@@ -1,17 +1,16 @@
 //! From a mark on to a later tag.
-ghost use Rattle.std.specs.Prelude.{◌≡◌, ◌≢◌, ◌≤◌, ◌<◌, ◌⊎◌, ◌++◌, ◌∷◌, [], true, List, Option, None, IfOk, IfSome, All, map, length, option_to_list};
+ghost use Rattle.std.specs.Prelude.{◌≡◌, ◌≢◌, ◌≤◌, ◌<◌, ◌⊎◌, ◌++◌, ◌∷◌, [], Option, None, IfOk, All, map, length, option_to_list};
 ghost use Rattle.hk_base.specs.declared.types.Structure.{Structure};
 ghost use Rattle.ground_history.specs.Ground.{IsGrounded, newest_told};
 ghost use Rattle.definition_intervals.specs.Founds.{IsFormedFound, first_after_all};
-ghost use Rattle.hk_base.specs.TailoringParts.{TailoringParts};
 ghost use Rattle.opening_sweeps.specs.Requests.{IsFormedStart};
 ghost use Rattle.live_verdicts.specs.Changes.{unsures};
 ghost use Rattle.live_verdicts.specs.Marks as marks;
-ghost use Rattle.live_verdicts.specs.Marks.{AreAlike, GoesOn, HoldsFor, IsMark, found_by, first_by, first_found};
+ghost use Rattle.live_verdicts.specs.Marks.{AreAlike, Finds, GoesOn, HoldsFor, IsMark, found_by, first_by, first_found};
 
 use crate::between::{Numbers, among, told_between};
-use crate::finds::{add_find, basis_of_finds, finds_over, first_over, found_from};
 use crate::counting::ended_before;
+use crate::finds::{add_find, basis_of_finds, finds_over, first_over, found_from};
 use crate::mark::Mark;
 use crate::unsure::unsures;
 use definition_intervals::{copied_state, same_is_found};
@@ -76,7 +75,13 @@ pub(crate) fn later_mark(
 }
 
 /// The first open change of the requests with numbers from one on and below another that may have changed a structure, none of them known to have ended.
-fn first_open(alloc: Global, history: &History, key: Key, first: u64, end: u64) -> Result<Option<u64>, Memory>
+fn first_open(
+    alloc: Global,
+    history: &History,
+    key: Key,
+    first: u64,
+    end: u64,
+) -> Result<Option<u64>, Memory>
     requires order { first ≤ end }
     requires within { end ≤ length history.now.history.requests }
     ensures { IfOk result (λ change. change ≡ first_after_all (unsures history.now.history key first end) None) }
@@ -136,9 +141,10 @@ fn with_starts(
     requires within { numbers.end ≤ length history.now.history.requests }
     requires grounded { IsGrounded history.now }
     requires formed { All (IsFormedStart history.now.tailoring) starts.now }
-    ensures alike { IfOk result (λ later. (fs : List (Option (List (Option Structure)))) → AreAlike fs finding.finds.items
+    ensures alike { IfOk result (λ later. (fs : Finds) → AreAlike fs finding.finds.items
         → AreAlike (fs ++ map (found_by history.now.tailoring history.now.history key tag numbers.first numbers.end) starts.now) later.finds.items) }
-    ensures formed { IfOk result (λ later. All (IsFormedFound history.now.tailoring) finding.finds.items → All (IsFormedFound history.now.tailoring) later.finds.items) }
+    ensures formed { IfOk result (λ later. All (IsFormedFound history.now.tailoring) finding.finds.items
+        → All (IsFormedFound history.now.tailoring) later.finds.items) }
     ensures first { IfOk result (λ later. later.first ≡ first_by history.now.history key tag numbers.first numbers.end starts.now finding.first) }
 {
     let mut finding = finding;
@@ -162,10 +168,12 @@ fn with_start(
     requires within { numbers.end ≤ length history.now.history.requests }
     requires grounded { IsGrounded history.now }
     requires formed { IsFormedStart history.now.tailoring start.now }
-    ensures alike { IfOk result (λ later. (fs : List (Option (List (Option Structure)))) → AreAlike fs finding.finds.items
+    ensures alike { IfOk result (λ later. (fs : Finds) → AreAlike fs finding.finds.items
         → AreAlike (fs ++ found_by history.now.tailoring history.now.history key tag numbers.first numbers.end start.now ∷ []) later.finds.items) }
-    ensures formed { IfOk result (λ later. All (IsFormedFound history.now.tailoring) finding.finds.items → All (IsFormedFound history.now.tailoring) later.finds.items) }
-    ensures first { IfOk result (λ later. later.first ≡ first_after_all (marks.among history.now.history key start.now.tag tag numbers.first numbers.end) None) }
+    ensures formed { IfOk result (λ later. All (IsFormedFound history.now.tailoring) finding.finds.items
+        → All (IsFormedFound history.now.tailoring) later.finds.items) }
+    ensures first { IfOk result (λ later.
+        later.first ≡ first_after_all (marks.among history.now.history key start.now.tag tag numbers.first numbers.end) None) }
 {
     let tailoring = history.tailoring();
     let requests = among(alloc, history, key, start.tag, tag, numbers)?;

@@ -5,13 +5,12 @@ ghost use Rattle.ground_history.specs.Histories.{new_history};
 ghost use Rattle.ground_history.specs.Ground.{Ground};
 ghost use Rattle.definition_intervals.specs.Verdicts as verdicts;
 ghost use Rattle.live_verdicts.specs.Changes.{AreSameBelow, AreUnsureSame};
-ghost use Rattle.live_verdicts.specs.Marks.{AreListedBelow, ComesTo, IsNear, IsPlaceOf, StandsFor};
-ghost use Rattle.live_verdicts.specs.declared.mark.Mark as declared;
+ghost use Rattle.live_verdicts.specs.Marks.{AreListedBelow, IsNearAt, IsReachingAt, StandsFor};
 
 use crate::behind::approach;
 use crate::counting::{ended_before, listed_below};
-use crate::forgetting::forget;
 use crate::firm::is_untold;
+use crate::forgetting::forget;
 use crate::held::{Asked, coming_place, hold};
 use crate::mark::StructureMark;
 use crate::reaching::reach;
@@ -111,7 +110,7 @@ fn place_for(
     requires listed { AreListedBelow history.now.history asked.tag asked.listed }
     requires order { asked.past ≤ asked.listed }
     ensures stands { StandsFor held.new.items history.now }
-    ensures near { IfOk result (λ found. IfSome found (IsPlaceOf (λ (m : declared.Mark). IsNear history.now.history asked.key m asked.listed asked.tag) asked.key held.new.items)) }
+    ensures near { IfOk result (λ found. IfSome found (IsNearAt history.now.history asked held.new.items)) }
 {
     let place = match coming_place(held, history, asked) {
         Some(place) => place,
@@ -134,9 +133,9 @@ fn with_told_states(
     place: usize,
 ) -> Result<usize, Memory>
     requires stands { StandsFor held.old.items history.now }
-    requires reaches { IsPlaceOf (λ (m : declared.Mark). ComesTo history.now.history m asked.listed asked.tag × (asked.listed ≤ m.calm)) asked.key held.old.items place }
+    requires reaches { IsReachingAt history.now.history asked held.old.items place }
     ensures stands { StandsFor held.new.items history.now }
-    ensures near { IfOk result (IsPlaceOf (λ (m : declared.Mark). IsNear history.now.history asked.key m asked.listed asked.tag) asked.key held.new.items) }
+    ensures near { IfOk result (IsNearAt history.now.history asked held.new.items) }
 {
     let mark = &held[place].mark;
     if is_untold(history, asked.key, mark.tag, asked.tag) {

@@ -1,7 +1,6 @@
 //! Marks that reach the requests that may have been executed below a tag.
-ghost use Rattle.std.specs.Prelude.{◌≡◌, ◌<◌, ◌≤◌, IfOk, length};
-ghost use Rattle.live_verdicts.specs.Marks.{ComesTo, IsPlaceOf, StandsFor, calm_at};
-ghost use Rattle.live_verdicts.specs.declared.mark.Mark as declared;
+ghost use Rattle.std.specs.Prelude.{◌<◌, ◌≤◌, IfOk, length};
+ghost use Rattle.live_verdicts.specs.Marks.{IsComingAt, IsReachingAt, StandsFor, calm_at};
 
 use crate::growing::{calm_until, grown};
 use crate::held::{Asked, hold};
@@ -20,9 +19,9 @@ pub(crate) fn reach(
 ) -> Result<usize, Memory>
     requires stands { StandsFor held.old.items history.now }
     requires within { asked.listed ≤ length history.now.history.requests }
-    requires coming { IsPlaceOf (λ (m : declared.Mark). ComesTo history.now.history m asked.listed asked.tag) asked.key held.old.items place }
+    requires coming { IsComingAt history.now.history asked held.old.items place }
     ensures stands { StandsFor held.new.items history.now }
-    ensures reaches { IfOk result (IsPlaceOf (λ (m : declared.Mark). ComesTo history.now.history m asked.listed asked.tag × (asked.listed ≤ m.calm)) asked.key held.new.items) }
+    ensures reaches { IfOk result (IsReachingAt history.now.history asked held.new.items) }
 {
     let mut place = place;
     while held[place].mark.calm < asked.listed {
@@ -41,10 +40,10 @@ fn step(
 ) -> Result<usize, Memory>
     requires stands { StandsFor held.old.items history.now }
     requires within { asked.listed ≤ length history.now.history.requests }
-    requires coming { IsPlaceOf (λ (m : declared.Mark). ComesTo history.now.history m asked.listed asked.tag) asked.key held.old.items place }
+    requires coming { IsComingAt history.now.history asked held.old.items place }
     requires short { calm_at held.old.items place < asked.listed }
     ensures stands { StandsFor held.new.items history.now }
-    ensures coming { IfOk result (IsPlaceOf (λ (m : declared.Mark). ComesTo history.now.history m asked.listed asked.tag) asked.key held.new.items) }
+    ensures coming { IfOk result (IsComingAt history.now.history asked held.new.items) }
     ensures more { IfOk result (λ next. calm_at held.old.items place < calm_at held.new.items next) }
 {
     let mark = &held[place].mark;

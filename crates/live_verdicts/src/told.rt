@@ -1,12 +1,9 @@
 //! Marks with more states that were told, where no more requests have ended.
-ghost use Rattle.std.specs.Prelude.{◌≡◌, ◌≢◌, ◌≤◌, ◌<◌, ◌⊎◌, ◌++◌, ◌∷◌, [], true, List, Option, IfOk, All, map, length};
-ghost use Rattle.hk_base.specs.TailoringParts.{TailoringParts};
-ghost use Rattle.hk_base.specs.declared.types.Structure.{Structure};
+ghost use Rattle.std.specs.Prelude.{◌≡◌, ◌≢◌, ◌≤◌, ◌<◌, ◌⊎◌, ◌++◌, ◌∷◌, [], IfOk, All, map, length};
 ghost use Rattle.ground_history.specs.Ground.{newest_told};
-ghost use Rattle.definition_intervals.specs.Founds.{IsFormedFound, found_after_all};
+ghost use Rattle.definition_intervals.specs.Founds.{IsFormedFound};
 ghost use Rattle.opening_sweeps.specs.Requests.{IsFormedStart};
-ghost use Rattle.live_verdicts.specs.Changes as changes;
-ghost use Rattle.live_verdicts.specs.Marks.{AreAlike, AreKnown, ComesTo, IsMark, IsNear, found_at};
+ghost use Rattle.live_verdicts.specs.Marks.{AreAlike, AreKnownBehind, ComesTo, Finds, IsMark, IsNear, found_behind};
 
 use crate::between::{Numbers, told_between};
 use crate::finds::{add_find, basis_of_finds, begun, copied_finds, found_from, has_same};
@@ -104,11 +101,12 @@ fn with_told(
     requires order { numbers.first ≤ numbers.end }
     requires within { numbers.end ≤ length history.now.history.requests }
     requires formed { All (IsFormedStart history.now.tailoring) starts.now }
-    requires known { AreKnown history.now.tailoring (changes.unsures history.now.history key numbers.first numbers.end) told.origins.items told.finds.items }
-    ensures alike { IfOk result (λ later. (fs : List (Option (List (Option Structure)))) → AreAlike fs told.finds.items
-        → AreAlike (fs ++ map (found_at history.now.tailoring (λ tag. changes.unsures history.now.history key numbers.first numbers.end)) starts.now) later.finds.items) }
-    ensures formed { IfOk result (λ later. All (IsFormedFound history.now.tailoring) told.finds.items → All (IsFormedFound history.now.tailoring) later.finds.items) }
-    ensures known { IfOk result (λ later. AreKnown history.now.tailoring (changes.unsures history.now.history key numbers.first numbers.end) later.origins.items later.finds.items) }
+    requires known { AreKnownBehind history.now key numbers told }
+    ensures alike { IfOk result (λ later. (fs : Finds) → AreAlike fs told.finds.items
+        → AreAlike (fs ++ map (found_behind history.now key numbers) starts.now) later.finds.items) }
+    ensures formed { IfOk result (λ later. All (IsFormedFound history.now.tailoring) told.finds.items
+        → All (IsFormedFound history.now.tailoring) later.finds.items) }
+    ensures known { IfOk result (AreKnownBehind history.now key numbers) }
 {
     let mut told = told;
     for start in starts {
@@ -129,11 +127,12 @@ fn with_state(
     requires order { numbers.first ≤ numbers.end }
     requires within { numbers.end ≤ length history.now.history.requests }
     requires formed { IsFormedStart history.now.tailoring start.now }
-    requires known { AreKnown history.now.tailoring (changes.unsures history.now.history key numbers.first numbers.end) told.origins.items told.finds.items }
-    ensures alike { IfOk result (λ later. (fs : List (Option (List (Option Structure)))) → AreAlike fs told.finds.items
-        → AreAlike (fs ++ found_at history.now.tailoring (λ tag. changes.unsures history.now.history key numbers.first numbers.end) start.now ∷ []) later.finds.items) }
-    ensures formed { IfOk result (λ later. All (IsFormedFound history.now.tailoring) told.finds.items → All (IsFormedFound history.now.tailoring) later.finds.items) }
-    ensures known { IfOk result (λ later. AreKnown history.now.tailoring (changes.unsures history.now.history key numbers.first numbers.end) later.origins.items later.finds.items) }
+    requires known { AreKnownBehind history.now key numbers told }
+    ensures alike { IfOk result (λ later. (fs : Finds) → AreAlike fs told.finds.items
+        → AreAlike (fs ++ found_behind history.now key numbers start.now ∷ []) later.finds.items) }
+    ensures formed { IfOk result (λ later. All (IsFormedFound history.now.tailoring) told.finds.items
+        → All (IsFormedFound history.now.tailoring) later.finds.items) }
+    ensures known { IfOk result (AreKnownBehind history.now key numbers) }
 {
     // A law: it says that the same is found of the same, and does nothing.
     same_is_found();

@@ -14,7 +14,8 @@ use st01_reports::Verification;
 /// The first request of which something new is known since the packet with this tag was kept; None where there is none.
 pub fn touched_by_kept(history: &History, tag: u64) -> Option<u64>
     ensures { (g : Ground) (packet : List ℕ) → IsGrounded g → got_kind (protocol g.tailoring) g.history packet ≡ became.Kept tag
-        → history.now ≡ with_history g (history_with_got g.history packet ((protocol g.tailoring).reception packet)) → AreUnsureSame result g history.now }
+        → history.now ≡ with_history g (history_with_got g.history packet ((protocol g.tailoring).reception packet))
+        → AreUnsureSame result g history.now }
 {
     match history.kept_from(tag) {
         Some(kept) => touched_by_packet(kept),

@@ -59,7 +59,8 @@ pub(crate) fn next_unsure<'a>(
 fn unsure(history: &History, key: Key, number: u64) -> Option<Candidate<'_>>
     requires grounded { IsGrounded history.now }
     requires sent { number < length history.now.history.requests }
-    ensures { (sent : Sent) → slice_get history.now.history.requests number ≡ Some sent → result ≡ changes.unsure history.now.history key (number, sent) }
+    ensures { (sent : Sent) → slice_get history.now.history.requests number ≡ Some sent
+        → result ≡ changes.unsure history.now.history key (number, sent) }
 {
     if history.barred(number) {
         return None;

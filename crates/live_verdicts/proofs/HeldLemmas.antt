@@ -1,9 +1,9 @@
 -- Marks that are held while more is known.
-use Rattle.std.proofs.Common.{arith, ◌≡◌, ℕ, ◌+◌, ◌<◌, ◌≤◌, refl, sym, ◌∙◌, ap, subst, List, [], ◌∷◌, ◌++◌, length, take, drop, get_or, Bool, true, false, inl, inr, Option, Some, None, append-nil}
+use Rattle.std.proofs.Common.{arith, ◌≡◌, ℕ, suc, ◌+◌, ◌<◌, ◌≤◌, refl, sym, ◌∙◌, ap, subst, List, [], ◌∷◌, ◌++◌, length, take, drop, get_or, Bool, true, false, inl, inr, Option, Some, None, append-nil}
 use Rattle.std.specs.Prelude.{filter, filter_map, nat_lt, option_map, option_and_then, if◌then◌else◌}
 use Rattle.std.specs.List.{cons_option, enumerate_from}
 use Rattle.std.proofs.lemmas.Bool.{lt-ltb, le-ltb}
-use Rattle.std.proofs.lemmas.List.Elements.{All-push, filter_map-append}
+use Rattle.std.proofs.lemmas.List.Elements.{All-push, All-append, All-take, All-drop, filter_map-append}
 use Rattle.std.proofs.lemmas.List.{get_or-drop, length-drop, take-append-drop}
 use Rattle.hk_base.specs.declared.types.Key.{Key}
 use Rattle.hk_base.specs.Parameters.{key_eq, boot_structure}
@@ -173,6 +173,14 @@ stands-drop g held n le stands =
           let long = length-drop n held in
           let within : n + k < length held = omega (arith, l, long, le) in
           subst (λ (y : StructureMark). IsMark g y.key y.mark) (sym (get_or-drop n held k d)) (stands.marks (n + k) d within);
+    }
+
+pub stands-left : (g : Ground) (held : List StructureMark) (place : ℕ) → StandsFor held g → StandsFor (take place held ++ drop (suc place) held) g
+stands-left g held place stands =
+    record {
+      marks =
+          All-append (λ (y : StructureMark). IsMark g y.key y.mark) (take place held) (drop (suc place) held) (All-take (λ (y : StructureMark). IsMark g y.key y.mark) place held stands.marks)
+          (All-drop (λ (y : StructureMark). IsMark g y.key y.mark) (suc place) held stands.marks);
     }
 
 -- what is said of a place is so of the mark there

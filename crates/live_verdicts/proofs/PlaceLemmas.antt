@@ -1,5 +1,5 @@
 -- Marks at a place among those that are held.
-use Rattle.std.proofs.Common.{arith, ◌≡◌, ℕ, zero, suc, ◌+◌, ◌<◌, refl, sym, ◌∙◌, ap, subst, List, [], ◌∷◌, ◌++◌, length, take, drop, get_or, slice_set, ◌⊎◌, true, Option, Result, Ok, Err}
+use Rattle.std.proofs.Common.{arith, None, ◌≡◌, ℕ, zero, suc, ◌+◌, ◌<◌, refl, sym, ◌∙◌, ap, subst, List, [], ◌∷◌, ◌++◌, length, take, drop, get_or, slice_set, ◌⊎◌, true, Option, Result, Ok, Err}
 use Rattle.std.specs.Prelude.{IfOk}
 use Rattle.std.specs.List.{All}
 use Rattle.std.proofs.lemmas.List.Elements.{All-push, All-set, All-drop}
@@ -103,6 +103,18 @@ left-length xs left i l is = ap (λ ys. length ys + 1) is ∙ count xs i l
     count [] i l = absurd (omega (arith, l))
     count (x ∷ xs) zero l = omega arith
     count (x ∷ xs) (suc i) l = let rest = count xs i (omega (arith, l)) in omega (arith, rest)
+
+pub stands-same : (from touched : Option ℕ) (g later : Ground) (held : List StructureMark) → from ≡ None → touched ≡ None → AreSameBelow from g later → AreUnsureSame touched g later → StandsFor held g → StandsFor held later
+stands-same from touched g later held none untouched same unsure stands =
+    record {
+      marks = λ k d l.
+          let x = get_or held k d in
+          same-calm later x
+          (mark-later None None g later x.key x.mark (subst (λ o. AreSameBelow o g later) none same) (subst (λ o. AreUnsureSame o g later) untouched unsure) (tt, tt) (stands.marks k d l));
+    }
+  where
+    same-calm : (later : Ground) (x : StructureMark) → IsMark later x.key (with_calm x.mark x.mark.calm) → IsMarked later x
+    same-calm later x mark = mark
 
 -- ---- reaching
 

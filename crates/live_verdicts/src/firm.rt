@@ -58,7 +58,7 @@ fn have_passed(history: &History, past: u64, tag: u64) -> bool
 }
 
 /// Whether the requests before a number may have been executed below a tag.
-fn have_begun(history: &History, end: u64, tag: u64) -> bool
+pub(crate) fn have_begun(history: &History, end: u64, tag: u64) -> bool
     requires { end ≤ length history.now.history.requests }
     ensures { result ≡ true → HaveBegun history.now.history end tag }
 {

@@ -1,5 +1,5 @@
 //! Which marks stay while entries come.
-ghost use Rattle.std.specs.Prelude.{◌≡◌, true};
+ghost use Rattle.std.specs.Prelude.{◌≡◌, true, None};
 ghost use Rattle.ground_history.specs.Ground.{Ground};
 ghost use Rattle.live_verdicts.specs.Changes.{AreSameBelow, AreUnsureSame, IsBelow, IsUpTo};
 ghost use Rattle.live_verdicts.specs.Marks.{IsKept, StandsFor, narrowed_to};
@@ -12,6 +12,9 @@ pub(crate) fn forget(held: &mut Vec<StructureMark>, from: Option<u64>, touched: 
     ensures { (g later : Ground) → StandsFor held.old.items g → AreSameBelow from g later → AreUnsureSame touched g later
         → StandsFor held.new.items later }
 {
+    if is_nothing(from, touched) {
+        return;
+    }
     let mut place = 0;
     while place < held.len() {
         if is_kept(&held[place].mark, from, touched) {
@@ -20,6 +23,16 @@ pub(crate) fn forget(held: &mut Vec<StructureMark>, from: Option<u64>, touched: 
         } else {
             held.remove(place);
         }
+    }
+}
+
+/// Whether nothing has changed.
+fn is_nothing(from: Option<u64>, touched: Option<u64>) -> bool
+    ensures { result ≡ true → (from ≡ None) × (touched ≡ None) }
+{
+    match (from, touched) {
+        (None, None) => true,
+        _ => false,
     }
 }
 

@@ -1,5 +1,5 @@
 //! The marks that are held.
-ghost use Rattle.std.specs.Prelude.{◌≡◌, ◌<◌, true, IfOk, IfSome};
+ghost use Rattle.std.specs.Prelude.{◌≡◌, ◌<◌, true, IfOk, IfSome, length};
 ghost use Rattle.hk_base.specs.Parameters.{key_eq};
 ghost use Rattle.ground_history.specs.Ground.{Ground};
 ghost use Rattle.live_verdicts.specs.Marks.{ComesTo, IsComingAt, IsMark, IsPlaceOf, StandsFor};
@@ -12,6 +12,9 @@ use hk_base::{Key, Memory};
 
 /// So many marks are held at most.
 const MOST_MARKS: usize = 512;
+
+/// So many of one structure.
+const MOST_OF_ONE: usize = 64;
 
 /// What a verdict is asked on: reports of a structure with a tag.
 #[derive(Clone, Copy, Debug, Drop)]
@@ -46,12 +49,13 @@ pub(crate) fn is_coming(history: &History, mark: &Mark, asked: Asked) -> bool
     mark.past == asked.past && comes_to(history, mark, asked.listed, asked.tag)
 }
 
-/// Holds one more mark, and gives its place. Where there are too many, the older half is given up.
+/// Holds one more mark, and gives its place. Where there are too many, older ones are given up.
 pub(crate) fn hold(held: &mut Vec<StructureMark>, key: Key, mark: Mark) -> Result<usize, Memory>
     ensures stands { (g : Ground) → StandsFor held.old.items g → IsMark g key mark → StandsFor held.new.items g }
     ensures place { IfOk result (IsPlaceOf (λ (m : declared.Mark). m ≡ mark) key held.new.items) }
 {
     give_up_older(held)?;
+    give_up_first_of(held, key);
     let place = held.len();
     held.push(StructureMark { key, mark })?;
     Ok(place)
@@ -67,6 +71,33 @@ fn give_up_older(held: &mut Vec<StructureMark>) -> Result<(), Memory>
     let recent = held.split_off(MOST_MARKS / 2)?;
     *held = recent;
     Ok(())
+}
+
+/// Gives up the first mark of a structure, where there are as many of it as are held at most.
+fn give_up_first_of(held: &mut Vec<StructureMark>, key: Key)
+    ensures { (g : Ground) → StandsFor held.old.items g → StandsFor held.new.items g }
+{
+    if let Some(first) = first_of_many(held, key) {
+        held.remove(first);
+    }
+}
+
+/// The place of the first mark of a structure, where there are as many of it as are held at most.
+fn first_of_many(held: &[StructureMark], key: Key) -> Option<usize>
+    ensures { IfSome result (λ place. place < length held.now) }
+{
+    let mut left = MOST_OF_ONE;
+    let mut end = held.len();
+    while end > 0 {
+        end -= 1;
+        if is_same(held[end].key, key) {
+            left -= 1;
+            if left == 0 {
+                return Some(end);
+            }
+        }
+    }
+    None
 }
 
 pub(crate) fn is_same(a: Key, b: Key) -> bool

@@ -2,7 +2,7 @@ use Rattle.std.proofs.Common.{arith, ◌≡◌, ◌∙◌, ◌<◌, length, sym,
 use Rattle.live_verdicts.specs.Marks.{IsKept, narrowed_to}
 use Rattle.live_verdicts.specs.declared.mark.StructureMark.{StructureMark}
 use Rattle.live_verdicts.proofs.GrowLemmas.{all-taken}
-use Rattle.live_verdicts.proofs.PlaceLemmas.{IsMarked, changed_calm, kept-done, kept-ahead, left-done, left-ahead, left-length, set-length, get-same}
+use Rattle.live_verdicts.proofs.PlaceLemmas.{IsMarked, changed_calm, kept-done, kept-ahead, left-done, left-ahead, left-length, set-length, get-same, stands-same}
 use Rattle.live_verdicts.proofs.forgetting.forget.Goals as goal
 
 pub loop-place-preserved-then-is_kept : goal.loop-place-preserved-then-is_kept
@@ -51,6 +51,12 @@ loop-place-preserved c =
       done = λ g later stands same unsure. left-done later held left place c.remove.ensures.items (c.loop-place.invariant.done g later stands same unsure);
       ahead = λ g later stands same unsure. left-ahead g held left place c.remove.ensures.items (c.loop-place.invariant.ahead g later stands same unsure);
     }
+
+pub returns-then-is_nothing : goal.returns-then-is_nothing
+returns-then-is_nothing c =
+    λ g later stands same unsure.
+    let none = c.is_nothing.ensures c.if-is_nothing.true in
+    stands-same c.args.from c.args.touched g later c.args.held.now.items none.0 none.1 same unsure stands
 
 pub returns : goal.returns
 returns c =

@@ -1,5 +1,5 @@
 -- What is due of kept reports, by their tags.
-use Rattle.std.specs.Prelude.{⊤, ℕ, ◌<◌, List, [], ◌∷◌, filter, find, Bool, true, false, not, ◌&&◌, ◌==◌, nat_lt, nat_le, Option, Some, None, option_map, Result, Ok, Err, if◌then◌else◌}
+use Rattle.std.specs.Prelude.{⊤, ℕ, ◌<◌, List, [], ◌∷◌, ◌++◌, filter, find, flat_map, Bool, true, false, not, ◌&&◌, ◌==◌, nat_lt, nat_le, Option, Some, None, option_map, Result, Ok, Err, if◌then◌else◌}
 use Rattle.std.specs.List.{AllByRecursion}
 use Rattle.hk_base.specs.declared.types.Key.{Key}
 use Rattle.pus_messages.specs.Messages.{protocol}
@@ -14,6 +14,8 @@ use Rattle.session_record.specs.declared.entry.Entry.TheVariants.{Sent, Got, Lin
 use Rattle.session_texts.specs.Blocks.{body_block}
 use Rattle.session_texts.specs.Follow.{is_decision, is_ready_body, has_tag}
 use Rattle.definition_intervals.specs.Verdicts.{verdict}
+use Rattle.block_lines.specs.declared.counts.Counts.{Counts}
+use Rattle.block_lines.specs.Counts.{lines_of}
 use Rattle.decommutator.specs.Blocks.{parameter_block}
 use Rattle.decommutator.specs.declared.changed.Came.{Came}
 use Rattle.decommutator.specs.declared.changed.Came.TheVariants as came
@@ -112,6 +114,10 @@ last_block g (Some r) = body_block g.tailoring g.history r.header.tag r.body
 -- the block of the report with a tag, by what is known
 abbrev pub last_text : Ground → ℕ → List ℕ
 last_text g tag = last_block g (report_from g tag)
+
+-- the blocks of the reports with these tags, by what is known, and then the counts
+abbrev pub rest_by : Ground → List ℕ → Counts → List ℕ
+rest_by g tags c = flat_map (last_text g) tags ++ lines_of c
 
 -- the kept packets with these tags
 abbrev pub waiting_packets : List ℕ → Ground → List Kept

@@ -1,6 +1,7 @@
 -- How a text reaches a sink piece by piece.
 use Rattle.std.specs.Prelude.{◌≡◌, ⊤, ℕ, ◌-◌, ◌≤◌, List, ◌++◌, length, Option, Some, Result, Ok, Err, IfSome}
 use Rattle.hk_base.specs.Outside.{HasRisen}
+use Rattle.hk_base.specs.declared.outside.Sink.{Ghosts}
 use Rattle.session_record.specs.Writing.{Writes}
 use Rattle.session_record.specs.declared.entry.WriteFault.{WriteFault}
 use Rattle.session_record.specs.declared.entry.WriteFault.TheVariants.{Failed, Memory}
@@ -30,6 +31,10 @@ pub record Seen : Type 0 where
 -- a sink that is seen as this
 abbrev pub seen_as : Option (List ℕ) → ℕ → Option ℕ → Seen
 seen_as taken faults room = record { taken = taken; faults = faults; room = room }
+
+-- a sink as it is seen
+abbrev pub as_seen : {S : Type 0} → Ghosts S → S → Seen
+as_seen sink state = seen_as (sink.taken state) (sink.faults state) (sink.room state)
 
 -- A text is under way: a sink took a first part of it with no fault, and the rest is ahead.
 pub record IsUnderWay (text ahead : List ℕ) (before now : Seen) : Type 0 where

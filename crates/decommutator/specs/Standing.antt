@@ -108,9 +108,13 @@ after_unfollowed waiting (Err fault) = waiting
 abbrev pub IsOrderly : Standing → Type 0
 IsOrderly s = length s.history.requests + (length s.history.kept + total s.counts) ≤ s.entries
 
--- the blocks of the kept reports in the order of tags, and then the counts
+-- the blocks of the kept reports in the order of tags
+abbrev pub blocks_by : Ground → List ℕ
+blocks_by g = flat_map (block g.tailoring g.history) g.history.kept
+
+-- the blocks, and then the counts
 abbrev pub text_by : Ground → Counts → List ℕ
-text_by g c = flat_map (block g.tailoring g.history) g.history.kept ++ lines_of c
+text_by g c = blocks_by g ++ lines_of c
 
 -- the whole text
 abbrev pub standing_text : Standing → List ℕ

@@ -1,9 +1,10 @@
 //! The blocks of kept reports.
-ghost use Rattle.std.specs.Prelude.{◌≡◌, ◌≤◌, ◌++◌, length, flat_map};
+ghost use Rattle.std.specs.Prelude.{◌≡◌, ◌≤◌, ◌++◌, length};
 ghost use Rattle.body_fields.specs.Outcomes.{Appends};
 ghost use Rattle.pus_messages.specs.Spelling.{HasRoom};
 ghost use Rattle.session_texts.specs.Blocks.{block, body_block};
-ghost use Rattle.decommutator.specs.Output.{Proceeds, seen_as};
+ghost use Rattle.decommutator.specs.Standing.{blocks_by};
+ghost use Rattle.decommutator.specs.Output.{Proceeds, as_seen};
 ghost use Rattle.decommutator.specs.Blocks.{parameter_block};
 
 use crate::output::write_piece;
@@ -24,7 +25,7 @@ pub(crate) fn write_blocks<K: Sink>(
     sink: &mut K,
     out: &mut Vec<u8>,
 ) -> Result<(), WriteFault>
-    ensures { Proceeds (out.old.items ++ flat_map (block verdicts.now.tailoring verdicts.now.history) verdicts.now.history.kept) (seen_as (K.taken sink.old) (K.faults sink.old) (K.room sink.old)) result out.new.items (seen_as (K.taken sink.new) (K.faults sink.new) (K.room sink.new)) }
+    ensures { Proceeds (out.old.items ++ blocks_by verdicts.now) (as_seen K.Sink sink.old) result out.new.items (as_seen K.Sink sink.new) }
 {
     for kept in verdicts.history().packets() {
         put_block(alloc, verdicts, kept, out)?;

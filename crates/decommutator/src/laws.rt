@@ -15,7 +15,8 @@ ghost use Rattle.decommutator.specs.Entries.{standing_of};
 /// text and numbers are those of the entries.
 pub fn entries_stand()
     ensures first { (t : TailoringParts) (h : Header) → standing_of t h [] ≡ new_standing t h.known h.long }
-    ensures next { (t : TailoringParts) (h : Header) (entries : List Entry) (e : Entry) → with_entry (standing_of t h entries) e ≡ standing_of t h (entries ++ e ∷ []) }
+    ensures next { (t : TailoringParts) (h : Header) (entries : List Entry) (e : Entry)
+        → with_entry (standing_of t h entries) e ≡ standing_of t h (entries ++ e ∷ []) }
     ensures text { (t : TailoringParts) (h : Header) (entries : List Entry) → standing_text (standing_of t h entries) ≡ text (protocol t) h entries }
     ensures tally { (t : TailoringParts) (h : Header) (entries : List Entry) → standing_tally (standing_of t h entries) ≡ tally (protocol t) h entries }
 {}

@@ -3,7 +3,7 @@ ghost use Rattle.std.specs.Prelude.{◌≡◌, ◌++◌, ◌∷◌, [], true, fi
 ghost use Rattle.std.specs.List.{AllByRecursion};
 ghost use Rattle.body_fields.specs.Outcomes.{Appends};
 ghost use Rattle.live_verdicts.specs.Marks.{StandsFor};
-ghost use Rattle.decommutator.specs.Output.{Proceeds, seen_as};
+ghost use Rattle.decommutator.specs.Output.{Proceeds, as_seen};
 ghost use Rattle.decommutator.specs.Due as due;
 ghost use Rattle.decommutator.specs.Due.{AreRising, due_text, waits};
 
@@ -29,9 +29,7 @@ pub(crate) fn write_due<K: Sink>(
     requires stands { StandsFor live.old history.now }
     requires rising { AreRising waiting.old.items }
     requires same { AllByRecursion (λ tag. due.is_same changed tag ≡ true → waits history.now tag ≡ true) waiting.old.items }
-    ensures text { Proceeds (flat_map (due_text history.now) waiting.old.items)
-        (seen_as (K.taken sink.old) (K.faults sink.old) (K.room sink.old)) result []
-        (seen_as (K.taken sink.new) (K.faults sink.new) (K.room sink.new)) }
+    ensures text { Proceeds (flat_map (due_text history.now) waiting.old.items) (as_seen K.Sink sink.old) result [] (as_seen K.Sink sink.new) }
     ensures waiting { OnOk result (waiting.new.items ≡ filter (waits history.now) waiting.old.items) }
     ensures stands { OnOk result (StandsFor live.new history.now) }
 {
@@ -66,9 +64,7 @@ fn look_over<K: Sink>(
 ) -> Result<(), WriteFault>
     requires stands { StandsFor live.old history.now }
     requires same { AllByRecursion (λ tag. due.is_same changed tag ≡ true → waits history.now tag ≡ true) tags.now }
-    ensures text { Proceeds (out.old.items ++ flat_map (due_text history.now) tags.now)
-        (seen_as (K.taken sink.old) (K.faults sink.old) (K.room sink.old)) result out.new.items
-        (seen_as (K.taken sink.new) (K.faults sink.new) (K.room sink.new)) }
+    ensures text { Proceeds (out.old.items ++ flat_map (due_text history.now) tags.now) (as_seen K.Sink sink.old) result out.new.items (as_seen K.Sink sink.new) }
     ensures waiting { OnOk result (waiting.new.items ≡ waiting.old.items ++ filter (waits history.now) tags.now) }
     ensures stands { OnOk result (StandsFor live.new history.now) }
 {

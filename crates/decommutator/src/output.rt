@@ -1,6 +1,6 @@
 //! Octets on their way to a sink.
 ghost use Rattle.std.specs.Prelude.{◌≡◌, [], OnOk};
-ghost use Rattle.decommutator.specs.Output.{Proceeds, seen_as};
+ghost use Rattle.decommutator.specs.Output.{Proceeds, as_seen};
 
 use hk_base::Sink;
 use session_record::{WriteFault, write_all};
@@ -10,7 +10,7 @@ const PIECE: usize = 65_536;
 
 /// Writes what was gathered, where it is a piece.
 pub(crate) fn write_piece<K: Sink>(sink: &mut K, out: &mut Vec<u8>) -> Result<(), WriteFault>
-    ensures { Proceeds out.old.items (seen_as (K.taken sink.old) (K.faults sink.old) (K.room sink.old)) result out.new.items (seen_as (K.taken sink.new) (K.faults sink.new) (K.room sink.new)) }
+    ensures { Proceeds out.old.items (as_seen K.Sink sink.old) result out.new.items (as_seen K.Sink sink.new) }
 {
     if out.len() < PIECE {
         return Ok(());
@@ -20,7 +20,7 @@ pub(crate) fn write_piece<K: Sink>(sink: &mut K, out: &mut Vec<u8>) -> Result<()
 
 /// Writes what was gathered.
 pub(crate) fn write_gathered<K: Sink>(sink: &mut K, out: &mut Vec<u8>) -> Result<(), WriteFault>
-    ensures proceeds { Proceeds out.old.items (seen_as (K.taken sink.old) (K.faults sink.old) (K.room sink.old)) result [] (seen_as (K.taken sink.new) (K.faults sink.new) (K.room sink.new)) }
+    ensures proceeds { Proceeds out.old.items (as_seen K.Sink sink.old) result [] (as_seen K.Sink sink.new) }
     ensures empty { OnOk result (out.new.items ≡ []) }
 {
     write_all(sink, out.as_slice())?;

@@ -1,9 +1,8 @@
 //! What is written at the end of a session that was followed.
 ghost use Rattle.std.specs.Prelude.{◌≡◌, ◌++◌, flat_map};
 ghost use Rattle.body_fields.specs.Outcomes.{Appends};
-ghost use Rattle.block_lines.specs.Counts.{lines_of};
-ghost use Rattle.decommutator.specs.Output.{HasEnded, Proceeds, seen_as};
-ghost use Rattle.decommutator.specs.Due.{last_text};
+ghost use Rattle.decommutator.specs.Output.{HasEnded, Proceeds, as_seen};
+ghost use Rattle.decommutator.specs.Due.{last_text, rest_by};
 
 use crate::blocks::put_last;
 use crate::output::{write_gathered, write_piece};
@@ -22,8 +21,7 @@ pub(crate) fn write_rest<K: Sink>(
     tags: &[u64],
     sink: &mut K,
 ) -> Result<(), WriteFault>
-    ensures { HasEnded (flat_map (last_text history.now) tags.now ++ lines_of counts.now) result (seen_as (K.taken sink.old) (K.faults sink.old) (K.room sink.old))
-        (seen_as (K.taken sink.new) (K.faults sink.new) (K.room sink.new)) }
+    ensures { HasEnded (rest_by history.now tags.now counts.now) result (as_seen K.Sink sink.old) (as_seen K.Sink sink.new) }
 {
     let verdicts = Verdicts::on_many(alloc, history)?;
     write_last(alloc, &verdicts, counts, tags, sink)
@@ -37,8 +35,7 @@ fn write_last<K: Sink>(
     tags: &[u64],
     sink: &mut K,
 ) -> Result<(), WriteFault>
-    ensures { HasEnded (flat_map (last_text verdicts.now) tags.now ++ lines_of counts.now) result (seen_as (K.taken sink.old) (K.faults sink.old) (K.room sink.old))
-        (seen_as (K.taken sink.new) (K.faults sink.new) (K.room sink.new)) }
+    ensures { HasEnded (rest_by verdicts.now tags.now counts.now) result (as_seen K.Sink sink.old) (as_seen K.Sink sink.new) }
 {
     let mut out = Vec::new(alloc);
     write_blocks(alloc, verdicts, tags, sink, &mut out)?;
@@ -54,9 +51,7 @@ fn write_blocks<K: Sink>(
     sink: &mut K,
     out: &mut Vec<u8>,
 ) -> Result<(), WriteFault>
-    ensures { Proceeds (out.old.items ++ flat_map (last_text verdicts.now) tags.now)
-        (seen_as (K.taken sink.old) (K.faults sink.old) (K.room sink.old)) result out.new.items
-        (seen_as (K.taken sink.new) (K.faults sink.new) (K.room sink.new)) }
+    ensures { Proceeds (out.old.items ++ flat_map (last_text verdicts.now) tags.now) (as_seen K.Sink sink.old) result out.new.items (as_seen K.Sink sink.new) }
 {
     for tag in tags {
         put_with_tag(alloc, verdicts, *tag, out)?;

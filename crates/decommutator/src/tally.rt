@@ -2,9 +2,8 @@
 ghost use Rattle.std.specs.Prelude.{◌≡◌, ◌<◌, ◌≤◌, ◌+◌, ◌∷◌, [], IfOk, IfSome, option_map, length};
 ghost use Rattle.pus_messages.specs.Spelling.{HasRoom};
 ghost use Rattle.ground_history.specs.Histories.{tag_of};
-ghost use Rattle.session_texts.specs.Tallies.{body_verdict};
 ghost use Rattle.decommutator.specs.Standing.{tally_by, with_verdicts};
-ghost use Rattle.decommutator.specs.Tallying.{IsFormedVerdict, with_tag};
+ghost use Rattle.decommutator.specs.Tallying.{IsFormedVerdict, verdict_on, with_tag};
 
 use crate::verdicts::Verdicts;
 use block_lines::Counts;
@@ -57,7 +56,7 @@ fn kept_verdict(
     kept: &KeptPacket,
 ) -> Result<Option<Verdict>, Memory>
     requires { HasRoom kept.now.report.body }
-    ensures verdict { IfOk result (λ found. option_map (with_tag (tag_of kept.now)) found ≡ body_verdict verdicts.now.tailoring verdicts.now.history (tag_of kept.now) kept.now.report.body) }
+    ensures verdict { IfOk result (λ found. option_map (with_tag (tag_of kept.now)) found ≡ verdict_on verdicts.now.tailoring verdicts.now.history kept.now) }
     ensures formed { IfOk result (λ found. IfSome found (IsFormedVerdict verdicts.now.tailoring)) }
 {
     match &kept.report().body {

@@ -1,6 +1,6 @@
 //! The whole text.
 ghost use Rattle.std.specs.Prelude.{◌≡◌};
-ghost use Rattle.decommutator.specs.Output.{HasEnded, seen_as};
+ghost use Rattle.decommutator.specs.Output.{HasEnded, as_seen};
 ghost use Rattle.decommutator.specs.Standing.{text_by};
 
 use crate::blocks::write_blocks;
@@ -19,7 +19,7 @@ pub(crate) fn write_text<K: Sink>(
     counts: &Counts,
     sink: &mut K,
 ) -> Result<(), WriteFault>
-    ensures { HasEnded (text_by history.now counts.now) result (seen_as (K.taken sink.old) (K.faults sink.old) (K.room sink.old)) (seen_as (K.taken sink.new) (K.faults sink.new) (K.room sink.new)) }
+    ensures { HasEnded (text_by history.now counts.now) result (as_seen K.Sink sink.old) (as_seen K.Sink sink.new) }
 {
     let verdicts = Verdicts::on_many(alloc, history)?;
     write_lines(alloc, &verdicts, counts, sink)
@@ -32,7 +32,7 @@ fn write_lines<K: Sink>(
     counts: &Counts,
     sink: &mut K,
 ) -> Result<(), WriteFault>
-    ensures { HasEnded (text_by verdicts.now counts.now) result (seen_as (K.taken sink.old) (K.faults sink.old) (K.room sink.old)) (seen_as (K.taken sink.new) (K.faults sink.new) (K.room sink.new)) }
+    ensures { HasEnded (text_by verdicts.now counts.now) result (as_seen K.Sink sink.old) (as_seen K.Sink sink.new) }
 {
     let mut out = Vec::new(alloc);
     write_blocks(alloc, verdicts, sink, &mut out)?;

@@ -46,7 +46,8 @@ pub fn verdict_on(
     requires formed { IsFormedBasis tailoring.now basis.now }
     requires limit { length payload.now ≤ 2147483648 }
     ensures verdict { IfOk result (λ verdict. verdict ≡ bases.verdict_on tailoring.now tag payload.now basis.now) }
-    ensures of_openings { (os : List Opening) → IsBasis tailoring.now os basis.now → IfOk result (λ verdict. verdict ≡ verdict_of tailoring.now tag payload.now os) }
+    ensures of_openings { (os : List Opening) → IsBasis tailoring.now os basis.now
+        → IfOk result (λ verdict. verdict ≡ verdict_of tailoring.now tag payload.now os) }
 {
     match basis {
         Basis::NoOpening => Ok(Verdict::NoOpening),

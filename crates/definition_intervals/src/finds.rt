@@ -77,7 +77,8 @@ pub fn narrowed_by_found(
 ) -> Result<Option<Items<Option<Structure>>>, Memory>
     ensures common { IfOk result (λ left. (founds : List (Option (List (Option Structure)))) → IfSome found.now (IsDistinct state_eq)
         → IsCommon founds common → IsCommon (founds ++ found.now ∷ []) left) }
-    ensures formed { IfOk result (λ left. (t : TailoringParts) → IfSome common (All (IsFormedState t)) → IsFormedFound t found.now → IfSome left (All (IsFormedState t))) }
+    ensures formed { IfOk result (λ left. (t : TailoringParts) → IfSome common (All (IsFormedState t)) → IsFormedFound t found.now
+        → IfSome left (All (IsFormedState t))) }
 {
     let Some(found) = found else {
         return Ok(common);

@@ -186,7 +186,8 @@ pub fn candidate<'a>(
 ) -> Option<Candidate<'a>>
     requires grounded { IsGrounded history.now }
     requires sent { number < length history.now.history.requests }
-    ensures { (sent : Sent) → slice_get history.now.history.requests number ≡ Some sent → result ≡ openings.candidate history.now.history key from tag (number, sent) }
+    ensures { (sent : Sent) → slice_get history.now.history.requests number ≡ Some sent
+        → result ≡ openings.candidate history.now.history key from tag (number, sent) }
 {
     if !is_possible(history, from, tag, number) {
         return None;

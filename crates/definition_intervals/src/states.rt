@@ -118,7 +118,8 @@ fn agreed_state(
 ) -> Result<Option<Option<Structure>>, Memory>
     requires grammar { IsFormedCandidate tailoring.now request.now }
     requires formed { IsFormedState tailoring.now (option_copied before) }
-    ensures { IfOk result (λ agreed. option_to_list agreed ≡ agreed_states request.now.outcome (option_copied before.entry) (effect tailoring.now request.now.change (option_copied before.entry))) }
+    ensures { IfOk result (λ agreed. option_to_list agreed
+        ≡ agreed_states request.now.outcome (option_copied before.entry) (effect tailoring.now request.now.change (option_copied before.entry))) }
 {
     match apply(alloc, tailoring, lent(&request.change), before) {
         Ok(after) => match request.outcome {

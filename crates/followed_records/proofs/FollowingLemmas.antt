@@ -17,7 +17,7 @@ use Rattle.decommutator.specs.declared.fault.FollowFault.TheVariants.{Sent, Writ
 use Rattle.decommutator.specs.Following.{followed_text, after_followed, closing_text}
 use Rattle.followed_records.specs.Told.{Told, told_text, told_problem}
 use Rattle.followed_records.specs.Faults.{fault_of_entry, fault_of_following, fault_of_writing}
-use Rattle.followed_records.specs.Following.{told_after, told_by, told_entry, told_rest, Closes, Follows, FollowsAll, FollowsEntry, FollowsUntil, SinkCounts}
+use Rattle.followed_records.specs.Following.{told_after, told_by, told_entry, told_rest, told_from, Closes, Follows, FollowsAll, FollowsEntry, FollowsUntil, SinkCounts}
 use Rattle.followed_records.specs.declared.fault.FollowingFault.{FollowingFault}
 use Rattle.followed_records.specs.declared.fault.FollowingFault.TheVariants.{Record, ReadFault, WriteFault, Memory}
 use Rattle.followed_records.proofs.WrittenLemmas.{written_none, written_then, written_as, prefix_as, prefix_none, prefix_part, prefix_behind}
@@ -210,10 +210,6 @@ behind_all T U octets given rest done left before now after (Ok unit) split onwa
       written_as before after (done ++ told_text (U rest)) (told_text (T octets)) (text_after done (T octets) (U rest) is) (written_then before now after done (told_text (U rest)) written h.1),
     )
 behind_all T U octets given rest done left before now after (Err fault) split onward written h = behind T U octets given rest done left before now after fault split onward written h
-
--- what comes of an entry and of what is still to come after it
-abbrev pub told_from : Decommutation → ℕ → Entry → Reading → List ℕ → Told
-told_from d offset e r more = told_entry d offset e (told_rest (after_followed d e) (to_come r more))
 
 from_taken : (d later : Decommutation) (offset : ℕ) (e : Entry) (r : Reading) (before now : Option (List ℕ)) → FollowsEntry (Ok later) d offset e before now
     → (more : List ℕ) → told_from d offset e r more ≡ told_after (followed_text d e) (told_rest later (to_come r more))

@@ -17,11 +17,11 @@ use Rattle.decommutator.specs.Follows.{FollowsWithin}
 use Rattle.decommutator.specs.declared.fault.FollowFault.{FollowFault}
 use Rattle.decommutator.specs.declared.fault.FollowFault.TheVariants.{Sent, Write}
 use Rattle.followed_records.specs.Faults.{fault_of_entry, fault_of_following, fault_of_reading, fault_of_writing}
-use Rattle.followed_records.specs.Following.{told_end, told_entry, told_rest, FollowsEntry, HasRoomLeft, IsUnfailed, LeavesRoom}
+use Rattle.followed_records.specs.Following.{told_end, told_entry, told_rest, told_from, FollowsEntry, HasRoomLeft, IsUnfailed, LeavesRoom, WithRoom}
 use Rattle.followed_records.specs.declared.fault.FollowingFault.{FollowingFault}
 use Rattle.followed_records.specs.declared.fault.FollowingFault.TheVariants.{Record, ReadFault, WriteFault, Memory}
 use Rattle.followed_records.proofs.ReadingLemmas.{none_told, entry_next, end_next}
-use Rattle.followed_records.proofs.FollowingLemmas.{entry_taken, text_after, told_from}
+use Rattle.followed_records.proofs.FollowingLemmas.{entry_taken, text_after}
 
 -- where the room is told and enough for all that comes, it is enough for what is still to come
 abbrev pub KeepsRoom : (List ℕ → Told) → Option (List ℕ) → Option ℕ → Decommutation → Reading → Option (List ℕ) → Option ℕ → Type 0
@@ -78,10 +78,6 @@ unread (fault.TooLong o) after = tt
 unread (fault.TooManyEntries o) after = tt
 unread fault.ReadFault after = tt
 unread fault.Memory after = tt
-
--- where the room is told and enough, what holds then
-abbrev pub WithRoom : (List ℕ → Told) → Option (List ℕ) → Option ℕ → Type 0 → Type 0
-WithRoom T was room P = IfSome was (λ octets. IfSome room (λ whole. length (told_text (T octets)) ≤ whole → P))
 
 pub with_room : (T : List ℕ → Told) (was : Option (List ℕ)) (room : Option ℕ) (P : Type 0) → P → WithRoom T was room P
 with_room T None room P p = tt

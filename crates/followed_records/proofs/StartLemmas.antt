@@ -11,14 +11,13 @@ use Rattle.session_record.specs.declared.entry.RecordFault.{RecordFault}
 use Rattle.decommutator.specs.Standing.{Decommutation}
 use Rattle.decommutator.specs.Following.{after_followed, closing_text}
 use Rattle.followed_records.specs.Told.{Told, told, told_text}
-use Rattle.followed_records.specs.Following.{told_end, told_entry, told_rest, new_decommutation, Closes, Follows, FollowsAll, IsUnfailed}
+use Rattle.followed_records.specs.Following.{told_end, told_entry, told_rest, told_from, new_decommutation, Closes, Follows, FollowsAll, IsUnfailed, WithRoom}
 use Rattle.followed_records.specs.declared.fault.FollowingFault.{FollowingFault}
 use Rattle.followed_records.specs.declared.fault.FollowingFault.TheVariants.{Memory}
 use Rattle.followed_records.proofs.WrittenLemmas.{written_none, prefix_none}
 use Rattle.followed_records.proofs.ToldLemmas.{IsPromised, start_of, told_start}
 use Rattle.followed_records.proofs.ReadingLemmas.{none_told, end_next}
-use Rattle.followed_records.proofs.FollowingLemmas.{behind_all, closes, told_from}
-use Rattle.followed_records.proofs.RoomLemmas.{WithRoom}
+use Rattle.followed_records.proofs.FollowingLemmas.{behind_all, closes}
 
 same_ok : (x y : Header × Entries) → ◌≡◌ {A = Result (Header × Entries) RecordFault} (Ok x) (Ok y) → x.0 ≡ y.0
 same_ok x y e = ap (λ r. (result_unwrap_or r x).0) e

@@ -4,6 +4,7 @@ use Rattle.hk_base.specs.TailoringParts.{TailoringParts}
 use Rattle.hk_base.specs.Outside.{HasRisen}
 use Rattle.ground_history.specs.declared.answer.SentFault.{SentFault}
 use Rattle.session_record.specs.Records.{Entries}
+use Rattle.session_record.specs.Reading.{Reading, to_come}
 use Rattle.session_record.specs.Written.{IsWritten, IsPrefixWritten}
 use Rattle.session_record.specs.declared.header.Header.{Header}
 use Rattle.session_record.specs.declared.entry.Entry.{Entry}
@@ -42,6 +43,14 @@ told_entries d ((offset, e) ∷ later) fault = told_entry d offset e (told_entri
 abbrev pub told_rest : Decommutation → Result (Header × Entries) RecordFault → Told
 told_rest d (Err fault) = told_problem (problem.Format fault)
 told_rest d (Ok x) = told_entries d x.1.list x.1.fault
+
+-- what comes of what is still to come where the shelf has these octets left
+abbrev pub told_ahead : Decommutation → Reading → List ℕ → Told
+told_ahead d r octets = told_rest d (to_come r octets)
+
+-- what comes of an entry and of what is still to come after it
+abbrev pub told_from : Decommutation → ℕ → Entry → Reading → List ℕ → Told
+told_from d offset e r octets = told_entry d offset e (told_ahead (after_followed d e) r octets)
 
 -- what stands for no entries
 abbrev pub new_decommutation : TailoringParts → Header → Decommutation
@@ -103,6 +112,10 @@ LeavesRoom (Ok later) text room after = after ≡ Some (room - length text)
 LeavesRoom (Err WriteFault) text room after = ⊥
 LeavesRoom (Err fault) text room after = ⊤
 
+-- where the room is told and enough for the text of an entry, it leaves the room that isn't taken
+abbrev pub LeavesRoomOf : Result Decommutation FollowingFault → List ℕ → Option ℕ → Option ℕ → Type 0
+LeavesRoomOf result text before after = IfSome before (λ room. length text ≤ room → LeavesRoom result text room after)
+
 -- with room for all there is to write, the sink doesn't fail, and there is room for what is written at the end
 abbrev pub HasRoomLeft : Result Decommutation FollowingFault → Option ℕ → Type 0
 HasRoomLeft (Ok later) after = IfSome after (λ free. length (closing_text later) ≤ free) × IsSome after
@@ -114,3 +127,7 @@ abbrev pub IsUnfailed : Result Unit FollowingFault → Type 0
 IsUnfailed (Ok done) = ⊤
 IsUnfailed (Err WriteFault) = ⊥
 IsUnfailed (Err fault) = ⊤
+
+-- what holds where the shelf tells the octets that it has left, and the sink's room is told and enough for all that is written of them
+abbrev pub WithRoom : (List ℕ → Told) → Option (List ℕ) → Option ℕ → Type 0 → Type 0
+WithRoom told left before Claim = IfSome left (λ octets. IfSome before (λ room. length (told_text (told octets)) ≤ room → Claim))

@@ -2,10 +2,8 @@
 ghost use Rattle.std.specs.Prelude.{◌≡◌, ◌≤◌, ◌<◌, ◌+◌, ◌^◌, length, IfOk, IfSome, IsSome, IsErrOf};
 ghost use Rattle.hk_base.specs.Outside.{HasRisen};
 ghost use Rattle.session_record.specs.Records.{held_octets, most_entries};
-ghost use Rattle.session_record.specs.Reading.{to_come};
 ghost use Rattle.decommutator.specs.Following.{followed_text, closing_text};
-ghost use Rattle.followed_records.specs.Told.{told_text};
-ghost use Rattle.followed_records.specs.Following.{told_rest, Closes, FollowsAll, FollowsEntry, HasRoomLeft, IsUnfailed, LeavesRoom, SinkCounts};
+ghost use Rattle.followed_records.specs.Following.{told_ahead, Closes, FollowsAll, FollowsEntry, HasRoomLeft, IsUnfailed, LeavesRoomOf, SinkCounts, WithRoom};
 
 use crate::fault::FollowingFault;
 use decommutator::Decommutator;
@@ -21,12 +19,13 @@ pub(crate) fn follow_rest<F: Shelf, K: Sink>(
 ) -> Result<Decommutator, FollowingFault>
     requires few { start.standing.entries + reader.old.room ≤ most_entries }
     requires followed { IsSome start.waiting }
-    ensures followed { IfSome (F.rest shelf.old) (λ octets. FollowsAll result (λ more. told_rest start (to_come reader.old more)) octets (F.rest shelf.new) (K.taken sink.old) (K.taken sink.new)) }
+    ensures followed { IfSome (F.rest shelf.old) (λ octets.
+        FollowsAll result (told_ahead start reader.old) octets (F.rest shelf.new) (K.taken sink.old) (K.taken sink.new)) }
     ensures waiting { IfOk result (λ later. IsSome later.waiting) }
     ensures read_fault { IsErrOf result FollowingFault.ReadFault → HasRisen (F.faults shelf.old) (F.faults shelf.new) }
     ensures count { SinkCounts result (K.faults sink.old) (K.faults sink.new) }
     ensures sound { F.is_sound shelf.old → IsSome (F.rest shelf.old) → F.faults shelf.new ≡ F.faults shelf.old }
-    ensures room { IfSome (F.rest shelf.old) (λ octets. IfSome (K.room sink.old) (λ room. length (told_text (told_rest start (to_come reader.old octets))) ≤ room → HasRoomLeft result (K.room sink.new))) }
+    ensures room { WithRoom (told_ahead start reader.old) (F.rest shelf.old) (K.room sink.old) (HasRoomLeft result (K.room sink.new)) }
 {
     let mut session = start;
     while let Some((offset, entry)) = reader.next(shelf)? {
@@ -47,7 +46,7 @@ pub(crate) fn follow_entry<K: Sink>(
     requires followed { IsSome session.waiting }
     ensures followed { FollowsEntry result session offset entry.now (K.taken sink.old) (K.taken sink.new) }
     ensures count { SinkCounts result (K.faults sink.old) (K.faults sink.new) }
-    ensures room { IfSome (K.room sink.old) (λ room. length (followed_text session entry.now) ≤ room → LeavesRoom result (followed_text session entry.now) room (K.room sink.new)) }
+    ensures room { LeavesRoomOf result (followed_text session entry.now) (K.room sink.old) (K.room sink.new) }
 {
     match session.follow(entry, sink) {
         Ok(later) => Ok(later),

@@ -2,10 +2,8 @@
 ghost use Rattle.std.specs.Prelude.{◌≡◌, ◌≤◌, ◌<◌, ◌+◌, ◌^◌, length, IfOk, IfSome, IsSome, IsErrOf};
 ghost use Rattle.hk_base.specs.Outside.{HasRisen};
 ghost use Rattle.session_record.specs.Records.{held_octets, most_entries};
-ghost use Rattle.session_record.specs.Reading.{to_come};
-ghost use Rattle.decommutator.specs.Following.{after_followed};
-ghost use Rattle.followed_records.specs.Told.{told, told_text};
-ghost use Rattle.followed_records.specs.Following.{new_decommutation, told_entry, told_rest, Follows, IsUnfailed, SinkCounts};
+ghost use Rattle.followed_records.specs.Told.{told};
+ghost use Rattle.followed_records.specs.Following.{new_decommutation, told_from, Follows, IsUnfailed, SinkCounts, WithRoom};
 
 use crate::entries::{close, follow_entry, follow_rest};
 use crate::fault::FollowingFault;
@@ -25,11 +23,12 @@ pub fn follow_record<F: Shelf, K: Sink>(
     shelf: &mut F,
     sink: &mut K,
 ) -> Result<(), FollowingFault>
-    ensures followed { IfSome (F.rest shelf.old) (λ octets. Follows result (told tailoring.now) octets (F.rest shelf.new) (K.taken sink.old) (K.taken sink.new)) }
+    ensures followed { IfSome (F.rest shelf.old) (λ octets.
+        Follows result (told tailoring.now) octets (F.rest shelf.new) (K.taken sink.old) (K.taken sink.new)) }
     ensures read_fault { IsErrOf result FollowingFault.ReadFault → HasRisen (F.faults shelf.old) (F.faults shelf.new) }
     ensures count { SinkCounts result (K.faults sink.old) (K.faults sink.new) }
     ensures sound { F.is_sound shelf.old → IsSome (F.rest shelf.old) → F.faults shelf.new ≡ F.faults shelf.old }
-    ensures room { IfSome (F.rest shelf.old) (λ octets. IfSome (K.room sink.old) (λ room. length (told_text (told tailoring.now octets)) ≤ room → IsUnfailed result)) }
+    ensures room { WithRoom (told tailoring.now) (F.rest shelf.old) (K.room sink.old) (IsUnfailed result) }
 {
     // A law: it says what stands for entries that are followed, and does nothing.
     entries_are_followed();
@@ -54,11 +53,12 @@ fn follow_from<F: Shelf, K: Sink>(
     requires few { session.standing.entries + reader.old.room < most_entries }
     requires size { length (held_octets entry.now) ≤ 2 ^ 31 }
     requires followed { IsSome session.waiting }
-    ensures followed { IfSome (F.rest shelf.old) (λ octets. Follows result (λ more. told_entry session offset entry.now (told_rest (after_followed session entry.now) (to_come reader.old more))) octets (F.rest shelf.new) (K.taken sink.old) (K.taken sink.new)) }
+    ensures followed { IfSome (F.rest shelf.old) (λ octets.
+        Follows result (told_from session offset entry.now reader.old) octets (F.rest shelf.new) (K.taken sink.old) (K.taken sink.new)) }
     ensures read_fault { IsErrOf result FollowingFault.ReadFault → HasRisen (F.faults shelf.old) (F.faults shelf.new) }
     ensures count { SinkCounts result (K.faults sink.old) (K.faults sink.new) }
     ensures sound { F.is_sound shelf.old → IsSome (F.rest shelf.old) → F.faults shelf.new ≡ F.faults shelf.old }
-    ensures room { IfSome (F.rest shelf.old) (λ octets. IfSome (K.room sink.old) (λ room. length (told_text (told_entry session offset entry.now (told_rest (after_followed session entry.now) (to_come reader.old octets)))) ≤ room → IsUnfailed result)) }
+    ensures room { WithRoom (told_from session offset entry.now reader.old) (F.rest shelf.old) (K.room sink.old) (IsUnfailed result) }
 {
     let session = follow_entry(session, offset, entry, sink)?;
     let session = follow_rest(session, reader, shelf, sink)?;

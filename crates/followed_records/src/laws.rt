@@ -15,6 +15,7 @@ pub fn followed_texts()
     ensures problem { (t : TailoringParts) (octets : List ℕ) → (told t octets).problem ≡ record_problem (protocol t) octets }
     ensures whole { (t : TailoringParts) (octets : List ℕ) (x : Header × Entries) → read_record octets ≡ Ok x → record_problem (protocol t) octets ≡ None
         → told_text (told t octets) ≡ follow_text (protocol t) x.0 (map (λ e. e.1) x.1.list) }
-    ensures part { (t : TailoringParts) (octets : List ℕ) (x : Header × Entries) (found : RecordProblem) → read_record octets ≡ Ok x → record_problem (protocol t) octets ≡ Some found
+    ensures part { (t : TailoringParts) (octets : List ℕ) (x : Header × Entries) (found : RecordProblem)
+        → read_record octets ≡ Ok x → record_problem (protocol t) octets ≡ Some found
         → told_text (told t octets) ≡ followed (protocol t) x.0 (reverse (taken_entries (protocol t) x.0 [] x.1.list)) }
 {}

@@ -24,6 +24,10 @@ pub record Ground : Type 0 where
   pub tailoring : TailoringParts
   pub history : History
 
+-- a tailoring, and what is known under it: whether the start is, whether the session is a long one, what was sent and what was kept
+abbrev pub ground_with : TailoringParts → Bool → Bool → List Sent → List Kept → Ground
+ground_with t known long requests kept = record { tailoring = t; history = record { known = known; long = long; requests = requests; kept = kept } }
+
 -- a request that was sent is of the grammar where it is known what it asks, and has at most 255 instructions
 abbrev pub IsGrammarSent : TailoringParts → Sent → Type 0
 IsGrammarSent t s = IfSome s.request (λ r. IsRequest t r × (length (instructions r) ≤ 255))

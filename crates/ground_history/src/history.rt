@@ -40,13 +40,13 @@ pub struct History {
 
 impl Model for History {
     ghost use Rattle.ground_history.specs.Indexes.{Says};
-    ghost use Rattle.ground_history.specs.Ground.{Ground, IsGrounded};
+    ghost use Rattle.ground_history.specs.Ground.{Ground, IsGrounded, ground_with};
 
     ghost Value = { Ground };
 
-    ghost view = { λ h. record { tailoring = h.tailoring; history = record { known = h.known; long = h.long; requests = h.requests; kept = h.kept } } };
+    ghost view = { λ h. ground_with h.tailoring h.known h.long h.requests h.kept };
 
-    ghost invariant = { λ h. Says h.evidence h.kept × IsGrounded (record { tailoring = h.tailoring; history = record { known = h.known; long = h.long; requests = h.requests; kept = h.kept } }) };
+    ghost invariant = { λ h. Says h.evidence h.kept × IsGrounded (ground_with h.tailoring h.known h.long h.requests h.kept) };
 }
 
 impl History {
@@ -419,7 +419,8 @@ impl History {
 
     /// The number of the request that a report verifies, if it is a verification report; the ID of a request that wasn't sent.
     fn number_of(&self, report: &Report) -> Result<Option<u64>, RequestId>
-        ensures { MatchResult result (λ number. HasNumber self.now.history report.now number) (λ id. histories.stray_id self.now.history report.now.header.tag report.now.body ≡ Some id.word) }
+        ensures { MatchResult result (λ number. HasNumber self.now.history report.now number)
+            (λ id. histories.stray_id self.now.history report.now.header.tag report.now.body ≡ Some id.word) }
     {
         let ReportBody::Verify(verification) = &report.body else {
             return Ok(None);

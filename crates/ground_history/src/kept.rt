@@ -36,7 +36,11 @@ impl Model for KeptPacket {
 
     ghost Value = { Kept };
 
-    ghost view = { λ kept. record { packet = with_payload kept.contents.value.around kept.contents.value.place (payload_of kept.contents.value.report.body); report = kept.contents.value.report; number = kept.contents.value.number } };
+    ghost view = { λ kept. record {
+      packet = with_payload kept.contents.value.around kept.contents.value.place (payload_of kept.contents.value.report.body);
+      report = kept.contents.value.report;
+      number = kept.contents.value.number;
+    } };
 
     ghost invariant = { λ kept. kept.contents.value.place ≤ length kept.contents.value.around };
 }
@@ -148,7 +152,9 @@ impl Model for KeptPackets {
 
     ghost view = { λ kept. packets_of kept.packets.entries };
 
-    ghost invariant = { λ kept. IsByTag kept.packets.entries × (kept.newest ≡ greatest (map tag_of (packets_of kept.packets.entries))) × (kept.told ≡ newest_told (packets_of kept.packets.entries)) };
+    ghost invariant = { λ kept. IsByTag kept.packets.entries
+        × (kept.newest ≡ greatest (map tag_of (packets_of kept.packets.entries)))
+        × (kept.told ≡ newest_told (packets_of kept.packets.entries)) };
 }
 
 impl KeptPackets {

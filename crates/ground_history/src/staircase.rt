@@ -86,7 +86,8 @@ impl Staircase {
 
     /// The next step behind the place, if it isn't higher.
     fn next_lower(&self, place: u64, height: u128) -> Option<u64>
-        ensures { MatchOption result (AllByRecursion (λ step. place < step.0 → height ≤ step.1) self.now) (λ lower. (place < lower) × IsLower lower height self.now) }
+        ensures { MatchOption result (AllByRecursion (λ step. place < step.0 → height ≤ step.1) self.now)
+            (λ lower. (place < lower) × IsLower lower height self.now) }
     {
         let behind = (Bound::Excluded(place), Bound::Unbounded);
         let (lower, found) = self.steps.range(behind).next()?;

@@ -30,7 +30,14 @@ impl Model for MemShelf {
 
     ghost Value = { ShelfState };
 
-    ghost view = { λ s. record { files = s.files; failing = s.failing; most = s.most; calls = s.calls; faults = s.faults; rest = option_map (drop s.read) (file_at s.files s.selected) } };
+    ghost view = { λ s. record {
+      files = s.files;
+      failing = s.failing;
+      most = s.most;
+      calls = s.calls;
+      faults = s.faults;
+      rest = option_map (drop s.read) (file_at s.files s.selected);
+    } };
 
     ghost invariant = { λ s. 1 ≤ s.most };
 }

@@ -31,7 +31,8 @@ pub fn worlds()
     ensures honest { (w : World) → IsWorld w → IsHonest w.session (moments_of w.steps) }
     ensures delivered { (w : World) → IsWorld w → AllByRecursion (IsDelivered w.session (moments_of w.steps)) (deliveries_of w.steps) }
     ensures undisturbed { (w : World) → IsWorld w → IsUndisturbed w → AreDeliveredReports w.session (moments_of w.steps) (deliveries_of w.steps) }
-    ensures unchanged { (w : World) → IsWorld w → IsUndisturbed w → (tag : ℕ) (key : Key) → (world_state_at w tag).structure key ≡ boot_structure (tailoring w.session) key }
+    ensures unchanged { (w : World) → IsWorld w → IsUndisturbed w → (tag : ℕ) (key : Key)
+        → (world_state_at w tag).structure key ≡ boot_structure (tailoring w.session) key }
 {}
 
 /// There are worlds: one in which nothing is commanded, one in which a request changes the interval of a structure before it

@@ -30,6 +30,10 @@ number_octets width words = flat_map (λ word. field width (number_in word)) wor
 abbrev pub list_octets : TailoringParts → ℕ → List (List ℕ) → List ℕ
 list_octets t width words = count_octets t (length words) ++ number_octets width words
 
+-- a list of parameters
+abbrev pub parameters_octets : TailoringParts → List (List ℕ) → List ℕ
+parameters_octets t ids = list_octets t t.widths.parameter_octets ids
+
 -- the word before an array
 abbrev pub is_array : List ℕ → Bool
 is_array word = bytes_eq word (codes "array")
@@ -37,7 +41,7 @@ is_array word = bytes_eq word (codes "array")
 -- an array: its repetition number, and its parameters
 abbrev pub array_octets : TailoringParts → List (List ℕ) → List ℕ
 array_octets t [] = []
-array_octets t (repetition ∷ ids) = field t.widths.repetition_octets (number_in repetition) ++ list_octets t t.widths.parameter_octets ids
+array_octets t (repetition ∷ ids) = field t.widths.repetition_octets (number_in repetition) ++ parameters_octets t ids
 
 -- the words behind the first one
 abbrev pub behind_name : List (List ℕ) → List (List ℕ)
@@ -48,7 +52,7 @@ behind_name (name ∷ words) = words
 abbrev pub section_octets : TailoringParts → List (List (List ℕ)) → List ℕ
 section_octets t [] = []
 section_octets t (simple ∷ arrays) =
-    list_octets t t.widths.parameter_octets (behind_name simple) ++ (count_octets t (length arrays) ++ flat_map (array_octets t) arrays)
+    parameters_octets t (behind_name simple) ++ (count_octets t (length arrays) ++ flat_map (array_octets t) arrays)
 
 -- simple parameters, and arrays after a word each
 abbrev pub lists_octets : TailoringParts → List (List ℕ) → List ℕ
@@ -108,11 +112,11 @@ statistics_octets t statistics.Report words = number_octets 1 words
 statistics_octets t statistics.Reset words = []
 statistics_octets t statistics.Enable words = number_octets t.widths.interval_octets words
 statistics_octets t statistics.Disable words = []
-statistics_octets t statistics.Add words = list_octets t t.widths.parameter_octets words
-statistics_octets t statistics.Delete words = list_octets t t.widths.parameter_octets (deleted words)
+statistics_octets t statistics.Add words = parameters_octets t words
+statistics_octets t statistics.Delete words = parameters_octets t (deleted words)
 statistics_octets t statistics.ShowDefinitions words = []
 
 -- the body of a request on parameter values
 abbrev pub request20_octets : TailoringParts → ValueCommand → List (List ℕ) → List ℕ
-request20_octets t values.Report words = list_octets t t.widths.parameter_octets words
+request20_octets t values.Report words = parameters_octets t words
 request20_octets t values.Set words = setting_octets t words

@@ -1,5 +1,6 @@
 //! The bodies that words stand for.
-ghost use Rattle.std.specs.Prelude.{◌≡◌, map};
+ghost use Rattle.std.specs.Prelude.{◌≡◌};
+ghost use Rattle.message_words.specs.Lines.{texts};
 ghost use Rattle.message_words.specs.Outcomes.{Gives};
 ghost use Rattle.message_words.specs.Reading.{most_octets, sound_body, housekeeping_in, statistics_in, request20_in, body_in};
 ghost use Rattle.st03_grammar.specs.Bodies.{request_body as body03};
@@ -36,7 +37,7 @@ pub fn body_in(
     tailoring: &Tailoring,
     words: &[&str],
 ) -> Result<TypedBody, WordsFault>
-    ensures { Gives result (body_in tailoring.now (map (λ word. word.now) words.now)) }
+    ensures { Gives result (body_in tailoring.now (texts words.now)) }
 {
     let [what, rest @ ..] = words else {
         return Err(WordsFault::Form);
@@ -56,7 +57,7 @@ fn structure_body(
     command: StructureCommand,
     words: &[&str],
 ) -> Result<TypedBody, WordsFault>
-    ensures { Gives result (housekeeping_in tailoring.now command (map (λ word. word.now) words.now)) }
+    ensures { Gives result (housekeeping_in tailoring.now command (texts words.now)) }
 {
     let [kind, rest @ ..] = words else {
         return Err(WordsFault::Form);
@@ -93,7 +94,7 @@ fn statistics_body(
     command: StatisticsCommand,
     words: &[&str],
 ) -> Result<TypedBody, WordsFault>
-    ensures { Gives result (statistics_in tailoring.now command (map (λ word. word.now) words.now)) }
+    ensures { Gives result (statistics_in tailoring.now command (texts words.now)) }
 {
     let subtype = statistics_subtype(command);
     let mut octets = Vec::new(alloc);
@@ -127,7 +128,7 @@ fn value_body(
     command: ValueCommand,
     words: &[&str],
 ) -> Result<TypedBody, WordsFault>
-    ensures { Gives result (request20_in tailoring.now command (map (λ word. word.now) words.now)) }
+    ensures { Gives result (request20_in tailoring.now command (texts words.now)) }
 {
     let subtype = value_subtype(command);
     let mut octets = Vec::new(alloc);

@@ -24,7 +24,8 @@ pub fn words_are_read_back()
 
 /// Words are found again in a line of them, which is ASCII.
 pub fn lines_are_divided()
-    ensures words { (word : List ℕ) (words : List (List ℕ)) → IsWord word → AreWords words → slice_split (λ octet. octet == 32) (text_of_words (word ∷ words)) ≡ word ∷ words }
+    ensures words { (word : List ℕ) (words : List (List ℕ)) → IsWord word → AreWords words
+        → slice_split (λ octet. octet == 32) (text_of_words (word ∷ words)) ≡ word ∷ words }
     ensures ascii { (words : List (List ℕ)) → AreWords words → is_ascii (text_of_words words) ≡ true }
 {}
 

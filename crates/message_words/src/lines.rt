@@ -3,6 +3,7 @@ ghost use Rattle.std.specs.Prelude.{◌≡◌, ◌==◌, map, Some, None, IfOk, 
 ghost use Rattle.std.specs.List.{slice_split};
 ghost use Rattle.std.specs.Option.{option_copied};
 ghost use Rattle.std.specs.Str.{bytes_eq};
+ghost use Rattle.message_words.specs.Lines.{texts};
 ghost use Rattle.message_words.specs.Reading.{is_ascii};
 
 use std::alloc::{AllocError, Global};
@@ -28,7 +29,7 @@ fn is_ascii(line: &[u8]) -> bool
 
 /// The words of a line, which one blank divides.
 pub fn words_in(alloc: Global, line: &str) -> Result<Vec<&str>, AllocError>
-    ensures { IfOk result (λ words. map (λ word. word.now) words.items ≡ slice_split (λ octet. octet == 32) line.now) }
+    ensures { IfOk result (λ words. texts words.items ≡ slice_split (λ octet. octet == 32) line.now) }
 {
     line.split(' ').collect(alloc)
 }
@@ -39,7 +40,7 @@ pub fn sections_in<'a, 't>(
     words: &'a [&'t str],
     mark: &str,
 ) -> Result<Vec<&'a [&'t str]>, AllocError>
-    ensures { IfOk result (λ parts. map (λ part. map (λ word. word.now) part.now) parts.items ≡ slice_split (λ word. bytes_eq word mark.now) (map (λ word. word.now) words.now)) }
+    ensures { IfOk result (λ parts. map (λ part. texts part.now) parts.items ≡ slice_split (λ word. bytes_eq word mark.now) (texts words.now)) }
 {
     words.split(|word| *word == mark).collect(alloc)
 }

@@ -3,8 +3,9 @@
 //! Each function goes by the places of the words alone: the decoder of the body finds what isn't of the grammar, and the
 //! comparison with the line what isn't its words. A number that its field has no room for puts no octets.
 ghost use Rattle.std.specs.Prelude.{◌≡◌, ◌≤◌, ◌^◌, ◌++◌, ◌∷◌, [], List, ℕ, length, map, flat_map, IfOk, OnOk};
+ghost use Rattle.message_words.specs.Lines.{texts};
 ghost use Rattle.message_words.specs.BodyOctets as spelling;
-ghost use Rattle.message_words.specs.BodyOctets.{field, number_octets, list_octets, array_octets, section_octets, lists_octets, creation_octets, appending_octets, alternating_octets, pair_octets, setting_octets_from, setting_octets, deleted, structure_octets, statistics_octets, request20_octets};
+ghost use Rattle.message_words.specs.BodyOctets.{field, number_octets, list_octets, parameters_octets, array_octets, section_octets, lists_octets, creation_octets, appending_octets, alternating_octets, pair_octets, setting_octets_from, setting_octets, deleted, structure_octets, statistics_octets, request20_octets};
 
 use crate::commands::{StatisticsCommand, StructureCommand, ValueCommand};
 use crate::lines::sections_in;
@@ -21,7 +22,7 @@ pub fn put_structure_request(
     words: &[&str],
     out: &mut Vec<u8>,
 ) -> Result<(), Memory>
-    ensures { OnOk result (out.new.items ≡ out.old.items ++ structure_octets tailoring.now command (map (λ word. word.now) words.now)) }
+    ensures { OnOk result (out.new.items ≡ out.old.items ++ structure_octets tailoring.now command (texts words.now)) }
 {
     match command {
         StructureCommand::Create => put_creation(alloc, tailoring, words, out),
@@ -40,7 +41,7 @@ pub fn put_statistics_request(
     words: &[&str],
     out: &mut Vec<u8>,
 ) -> Result<(), Memory>
-    ensures { OnOk result (out.new.items ≡ out.old.items ++ statistics_octets tailoring.now command (map (λ word. word.now) words.now)) }
+    ensures { OnOk result (out.new.items ≡ out.old.items ++ statistics_octets tailoring.now command (texts words.now)) }
 {
     let widths = tailoring.widths();
     match command {
@@ -61,7 +62,7 @@ pub fn put_value_request(
     words: &[&str],
     out: &mut Vec<u8>,
 ) -> Result<(), Memory>
-    ensures { OnOk result (out.new.items ≡ out.old.items ++ request20_octets tailoring.now command (map (λ word. word.now) words.now)) }
+    ensures { OnOk result (out.new.items ≡ out.old.items ++ request20_octets tailoring.now command (texts words.now)) }
 {
     match command {
         ValueCommand::Report => {
@@ -104,7 +105,7 @@ fn put_count(tailoring: &Tailoring, count: usize, out: &mut Vec<u8>) -> Result<(
 /// Appends numbers in fields of so many octets each.
 fn put_numbers(octets: u8, words: &[&str], out: &mut Vec<u8>) -> Result<(), Memory>
     requires { (1 ≤ octets) × (octets ≤ 4) }
-    ensures { OnOk result (out.new.items ≡ out.old.items ++ number_octets octets (map (λ word. word.now) words.now)) }
+    ensures { OnOk result (out.new.items ≡ out.old.items ++ number_octets octets (texts words.now)) }
 {
     for word in words {
         put_field(octets, number_in(word), out)?;
@@ -120,7 +121,7 @@ fn put_list(
     out: &mut Vec<u8>,
 ) -> Result<(), Memory>
     requires { (1 ≤ octets) × (octets ≤ 4) }
-    ensures { OnOk result (out.new.items ≡ out.old.items ++ list_octets tailoring.now octets (map (λ word. word.now) words.now)) }
+    ensures { OnOk result (out.new.items ≡ out.old.items ++ list_octets tailoring.now octets (texts words.now)) }
 {
     put_count(tailoring, words.len(), out)?;
     put_numbers(octets, words, out)
@@ -133,7 +134,7 @@ fn put_creation(
     words: &[&str],
     out: &mut Vec<u8>,
 ) -> Result<(), Memory>
-    ensures { OnOk result (out.new.items ≡ out.old.items ++ creation_octets tailoring.now (map (λ word. word.now) words.now)) }
+    ensures { OnOk result (out.new.items ≡ out.old.items ++ creation_octets tailoring.now (texts words.now)) }
 {
     let widths = tailoring.widths();
     match words {
@@ -153,7 +154,7 @@ fn put_appending(
     words: &[&str],
     out: &mut Vec<u8>,
 ) -> Result<(), Memory>
-    ensures { OnOk result (out.new.items ≡ out.old.items ++ appending_octets tailoring.now (map (λ word. word.now) words.now)) }
+    ensures { OnOk result (out.new.items ≡ out.old.items ++ appending_octets tailoring.now (texts words.now)) }
 {
     let widths = tailoring.widths();
     match words {
@@ -172,7 +173,7 @@ fn put_lists(
     words: &[&str],
     out: &mut Vec<u8>,
 ) -> Result<(), Memory>
-    ensures { OnOk result (out.new.items ≡ out.old.items ++ lists_octets tailoring.now (map (λ word. word.now) words.now)) }
+    ensures { OnOk result (out.new.items ≡ out.old.items ++ lists_octets tailoring.now (texts words.now)) }
 {
     let sections = sections_in(alloc, words, "array")?;
     put_sections(tailoring, &sections, out)
@@ -184,7 +185,7 @@ fn put_sections(
     sections: &[&[&str]],
     out: &mut Vec<u8>,
 ) -> Result<(), Memory>
-    ensures { OnOk result (out.new.items ≡ out.old.items ++ section_octets tailoring.now (map (λ part. map (λ word. word.now) part.now) sections.now)) }
+    ensures { OnOk result (out.new.items ≡ out.old.items ++ section_octets tailoring.now (map (λ part. texts part.now) sections.now)) }
 {
     match sections {
         [simple, arrays @ ..] => {
@@ -198,7 +199,7 @@ fn put_sections(
 
 /// Appends the simple parameters behind their word, where they have one.
 fn put_simple(tailoring: &Tailoring, words: &[&str], out: &mut Vec<u8>) -> Result<(), Memory>
-    ensures { OnOk result (out.new.items ≡ out.old.items ++ list_octets tailoring.now tailoring.now.widths.parameter_octets (spelling.behind_name (map (λ word. word.now) words.now))) }
+    ensures { OnOk result (out.new.items ≡ out.old.items ++ parameters_octets tailoring.now (spelling.behind_name (texts words.now))) }
 {
     let octets = tailoring.widths().parameter_octets;
     match words {
@@ -209,7 +210,7 @@ fn put_simple(tailoring: &Tailoring, words: &[&str], out: &mut Vec<u8>) -> Resul
 
 /// Appends arrays.
 fn put_arrays(tailoring: &Tailoring, arrays: &[&[&str]], out: &mut Vec<u8>) -> Result<(), Memory>
-    ensures { OnOk result (out.new.items ≡ out.old.items ++ flat_map (array_octets tailoring.now) (map (λ part. map (λ word. word.now) part.now) arrays.now)) }
+    ensures { OnOk result (out.new.items ≡ out.old.items ++ flat_map (array_octets tailoring.now) (map (λ part. texts part.now) arrays.now)) }
 {
     for array in arrays {
         put_array(tailoring, array, out)?;
@@ -219,7 +220,7 @@ fn put_arrays(tailoring: &Tailoring, arrays: &[&[&str]], out: &mut Vec<u8>) -> R
 
 /// Appends a repetition number and parameters.
 fn put_array(tailoring: &Tailoring, words: &[&str], out: &mut Vec<u8>) -> Result<(), Memory>
-    ensures { OnOk result (out.new.items ≡ out.old.items ++ array_octets tailoring.now (map (λ word. word.now) words.now)) }
+    ensures { OnOk result (out.new.items ≡ out.old.items ++ array_octets tailoring.now (texts words.now)) }
 {
     let widths = tailoring.widths();
     match words {
@@ -233,7 +234,7 @@ fn put_array(tailoring: &Tailoring, words: &[&str], out: &mut Vec<u8>) -> Result
 
 /// Appends structures' IDs, and an interval after each.
 fn put_pairs(tailoring: &Tailoring, words: &[&str], out: &mut Vec<u8>) -> Result<(), Memory>
-    ensures { OnOk result (out.new.items ≡ out.old.items ++ pair_octets tailoring.now (map (λ word. word.now) words.now)) }
+    ensures { OnOk result (out.new.items ≡ out.old.items ++ pair_octets tailoring.now (texts words.now)) }
 {
     let widths = tailoring.widths();
     put_count(tailoring, words.len() / 2, out)?;
@@ -244,7 +245,7 @@ fn put_pairs(tailoring: &Tailoring, words: &[&str], out: &mut Vec<u8>) -> Result
 fn put_alternating(octets: u8, other: u8, words: &[&str], out: &mut Vec<u8>) -> Result<(), Memory>
     requires one { (1 ≤ octets) × (octets ≤ 4) }
     requires two { (1 ≤ other) × (other ≤ 4) }
-    ensures { OnOk result (out.new.items ≡ out.old.items ++ alternating_octets octets other (map (λ word. word.now) words.now)) }
+    ensures { OnOk result (out.new.items ≡ out.old.items ++ alternating_octets octets other (texts words.now)) }
 {
     let mut width = octets;
     let mut next = other;
@@ -259,7 +260,7 @@ fn put_alternating(octets: u8, other: u8, words: &[&str], out: &mut Vec<u8>) -> 
 
 /// Appends parameters' IDs, and a value after each.
 fn put_settings(tailoring: &Tailoring, words: &[&str], out: &mut Vec<u8>) -> Result<(), Memory>
-    ensures { OnOk result (out.new.items ≡ out.old.items ++ setting_octets tailoring.now (map (λ word. word.now) words.now)) }
+    ensures { OnOk result (out.new.items ≡ out.old.items ++ setting_octets tailoring.now (texts words.now)) }
 {
     put_count(tailoring, words.len() / 2, out)?;
     put_ids_and_values(tailoring, words, out)
@@ -270,7 +271,7 @@ fn put_ids_and_values(
     words: &[&str],
     out: &mut Vec<u8>,
 ) -> Result<(), Memory>
-    ensures { OnOk result (out.new.items ≡ out.old.items ++ setting_octets_from tailoring.now None (map (λ word. word.now) words.now)) }
+    ensures { OnOk result (out.new.items ≡ out.old.items ++ setting_octets_from tailoring.now None (texts words.now)) }
 {
     let mut param = None;
     for word in words {
@@ -286,7 +287,8 @@ fn put_id_or_value(
     word: &str,
     out: &mut Vec<u8>,
 ) -> Result<Option<u32>, Memory>
-    ensures { IfOk result (λ after. (words : List (List ℕ)) → out.new.items ++ setting_octets_from tailoring.now after words ≡ out.old.items ++ setting_octets_from tailoring.now before (word.now ∷ words)) }
+    ensures { IfOk result (λ after. (words : List (List ℕ))
+        → out.new.items ++ setting_octets_from tailoring.now after words ≡ out.old.items ++ setting_octets_from tailoring.now before (word.now ∷ words)) }
 {
     match before {
         None => {
@@ -313,7 +315,7 @@ fn put_value(tailoring: &Tailoring, id: u32, value: Value, out: &mut Vec<u8>) ->
 
 /// Appends the parameters that are deleted: none where the one word is `all`.
 fn put_deleted(tailoring: &Tailoring, words: &[&str], out: &mut Vec<u8>) -> Result<(), Memory>
-    ensures { OnOk result (out.new.items ≡ out.old.items ++ list_octets tailoring.now tailoring.now.widths.parameter_octets (deleted (map (λ word. word.now) words.now))) }
+    ensures { OnOk result (out.new.items ≡ out.old.items ++ parameters_octets tailoring.now (deleted (texts words.now))) }
 {
     let octets = tailoring.widths().parameter_octets;
     match words {

@@ -1,5 +1,6 @@
 //! Requests, read from their words.
-ghost use Rattle.std.specs.Prelude.{◌≡◌, map, IfOk};
+ghost use Rattle.std.specs.Prelude.{◌≡◌, IfOk};
+ghost use Rattle.message_words.specs.Lines.{texts};
 ghost use Rattle.message_words.specs.Outcomes.{Gives};
 ghost use Rattle.message_words.specs.Words.{request_text};
 ghost use Rattle.message_words.specs.Grammar.{IsOfGround};
@@ -46,7 +47,7 @@ fn request_named(
     tailoring: &Tailoring,
     words: &[&str],
 ) -> Result<Request, WordsFault>
-    ensures { Gives result (request_named tailoring.now (map (λ word. word.now) words.now)) }
+    ensures { Gives result (request_named tailoring.now (texts words.now)) }
 {
     let [count, flags, rest @ ..] = words else {
         return Err(WordsFault::Form);

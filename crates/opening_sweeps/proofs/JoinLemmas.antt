@@ -11,7 +11,7 @@ use Rattle.report_structures.specs.Changes.{IsFormedState}
 use Rattle.definition_intervals.specs.Founds.{found_after_all, AreSameFound, IsFormedFound}
 use Rattle.opening_sweeps.specs.Requests.{Bounded}
 use Rattle.opening_sweeps.specs.Courses.{Course, IsLike, HasLike, AreAlike}
-use Rattle.opening_sweeps.specs.Groups.{courses_at, courses_of, courses, with_tags, unsure, IsReached}
+use Rattle.opening_sweeps.specs.Groups.{courses_at, courses_of, courses, joined, with_tags, unsure, IsReached}
 use Rattle.opening_sweeps.specs.declared.group.Group.{Group}
 use Rattle.opening_sweeps.proofs.FoldLemmas.{same-refl, same-sym}
 use Rattle.opening_sweeps.proofs.CourseLemmas.{like-found, like-refl, has-like, alike-from, alike-refl, alike-members, alike-trans, alike-append, courses-push}
@@ -61,10 +61,6 @@ moved-back k a b c d i = go (IsIn-append k (a ++ c) (b ++ d) i)
     go : IsIn k (a ++ c) ⊎ IsIn k (b ++ d) → IsIn k ((a ++ (b ++ c)) ++ d)
     go (inl j) = front (IsIn-append k a c j)
     go (inr j) = behind (IsIn-append k b d j)
-
--- a group with more openings, put behind the others
-abbrev pub joined : List Group → ℕ → Group → List ℕ → List Group
-joined gs i g tags = (take i gs ++ drop (i + 1) gs) ++ with_tags g tags ∷ []
 
 courses-split : (gs : List Group) (i : ℕ) (g : Group) → i < length gs → g ≡ get_or gs i g
     → courses gs ≡ courses (take i gs) ++ (courses_of g ++ courses (drop (i + 1) gs))

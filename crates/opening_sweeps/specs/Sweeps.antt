@@ -1,12 +1,12 @@
 -- A sweep over tags: what it holds at a tag.
-use Rattle.std.specs.Prelude.{◌≡◌, ℕ, ◌≤◌, ◌<◌, List, [], ◌∷◌, ◌++◌, length, map, take, drop, filter_map, true, false, Option, None}
+use Rattle.std.specs.Prelude.{◌≡◌, ℕ, ◌≤◌, ◌<◌, List, [], ◌∷◌, ◌++◌, length, map, take, drop, filter_map, true, false, Option, None, unwrap_or}
 use Rattle.std.specs.List.{All}
 use Rattle.hk_base.specs.TailoringParts.{TailoringParts}
 use Rattle.definition_intervals.specs.Openings.{is_at_most}
 use Rattle.definition_intervals.specs.Founds.{first_after_all}
 use Rattle.opening_sweeps.specs.Requests.{Bounded, Start, settled}
 use Rattle.opening_sweeps.specs.Courses.{course_of, course_after_all, AreAlike}
-use Rattle.opening_sweeps.specs.Groups.{courses, IsReached}
+use Rattle.opening_sweeps.specs.Groups.{courses, unsure, IsReached}
 use Rattle.opening_sweeps.specs.declared.group.Group.{Group}
 use Rattle.opening_sweeps.specs.declared.sweep.Sweep.{Sweep}
 
@@ -18,6 +18,10 @@ last_tag tag (s ∷ ss) = last_tag s.tag ss
 -- the states that opened below the sweep's tag
 abbrev pub opened_starts : List Start → List Start → Sweep → List Start
 opened_starts boot told s = boot ++ take s.opened told
+
+-- the first open change of the latest opening among the requests that are listed, of which those that aren't settled may be left out
+abbrev pub named_in : List Bounded → Sweep → ℕ
+named_in rs s = unwrap_or (first_after_all (unsure (drop s.settled (take s.listed rs))) s.first) 0
 
 -- The sweep has passed the states and requests below its tag, and its groups have the openings of these states.
 pub record IsSwept (t : TailoringParts) (rs : List Bounded) (boot told : List Start) (s : Sweep) : Type 0 where

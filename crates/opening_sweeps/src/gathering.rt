@@ -57,7 +57,8 @@ pub fn starts_rise()
 fn bounded_request<'a>(history: &'a History, key: Key, number: u64) -> Option<Bounded<'a>>
     requires grounded { IsGrounded history.now }
     requires sent { number < length history.now.history.requests }
-    ensures { (sent : Sent) → slice_get history.now.history.requests number ≡ Some sent → result ≡ requests.bounded_request history.now.history key (number, sent) }
+    ensures { (sent : Sent) → slice_get history.now.history.requests number ≡ Some sent
+        → result ≡ requests.bounded_request history.now.history key (number, sent) }
 {
     if history.barred(number) {
         return None;

@@ -4,8 +4,8 @@ ghost use Rattle.std.specs.List.{IsDistinct};
 ghost use Rattle.hk_base.specs.TailoringParts.{TailoringParts};
 ghost use Rattle.report_structures.specs.Changes.{IsFormedState};
 ghost use Rattle.definition_intervals.specs.States.{state_eq};
-ghost use Rattle.definition_intervals.specs.Founds.{IsFormedFound, IsCommon};
-ghost use Rattle.opening_sweeps.specs.Groups.{finds};
+ghost use Rattle.definition_intervals.specs.Founds.{IsCommon};
+ghost use Rattle.opening_sweeps.specs.Groups.{finds, HaveFormedFinds};
 ghost use Rattle.opening_sweeps.specs.declared.group.Group as declared;
 
 use crate::group::Group;
@@ -20,7 +20,7 @@ pub(crate) fn common_states(
 ) -> Result<Option<Items<Option<Structure>>>, Memory>
     requires { All (λ (g : declared.Group). IfSome g.found (IsDistinct state_eq)) groups.now }
     ensures common { IfOk result (IsCommon (finds groups.now)) }
-    ensures formed { IfOk result (λ common. (t : TailoringParts) → All (λ (g : declared.Group). IsFormedFound t g.found) groups.now → IfSome common (All (IsFormedState t))) }
+    ensures formed { IfOk result (λ common. (t : TailoringParts) → HaveFormedFinds t groups.now → IfSome common (All (IsFormedState t))) }
 {
     let mut common = None;
     for group in groups {

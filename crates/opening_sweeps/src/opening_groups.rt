@@ -1,12 +1,12 @@
 //! Openings are put into groups.
-ghost use Rattle.std.specs.Prelude.{◌≡◌, ◌≤◌, ◌<◌, ◌++◌, ◌∷◌, [], ℕ, List, OnOk, IfOk, IfSome, All, length, Some, take, drop, ◌+◌};
+ghost use Rattle.std.specs.Prelude.{◌≡◌, ◌≤◌, ◌<◌, ◌++◌, ◌∷◌, [], ℕ, List, OnOk, IfOk, IfSome, All, length, Some};
 ghost use Rattle.std.specs.Option.{option_copied};
 ghost use Rattle.std.specs.List.{HoldsAt};
 ghost use Rattle.hk_base.specs.TailoringParts.{TailoringParts};
 ghost use Rattle.definition_intervals.specs.Founds.{AreSameFound, IsFormedFound};
 ghost use Rattle.opening_sweeps.specs.Requests.{Bounded, IsFormedStart};
-ghost use Rattle.opening_sweeps.specs.Courses.{AreAlike, course_of};
-ghost use Rattle.opening_sweeps.specs.Groups.{courses, courses_at, with_tags, IsReached};
+ghost use Rattle.opening_sweeps.specs.Courses.{course_of};
+ghost use Rattle.opening_sweeps.specs.Groups.{courses_at, joined, AddsCourses, IsReached};
 
 use crate::group::Group;
 use crate::start::Start;
@@ -21,7 +21,7 @@ pub(crate) fn add_start(
     place: usize,
     groups: &mut Vec<Group>,
 ) -> Result<(), Memory>
-    ensures alike { OnOk result ((rest : List Bounded) → AreAlike rest (courses groups.old.items ++ course_of start.now ∷ []) (courses groups.new.items)) }
+    ensures alike { OnOk result (AddsCourses groups.old.items (course_of start.now ∷ []) groups.new.items) }
     ensures reached { OnOk result ((t : TailoringParts) (rs : List Bounded) (limit : ℕ) → place ≤ limit → IsFormedStart t start.now
         → All (IsReached t rs place limit) groups.old.items → All (IsReached t rs place limit) groups.new.items) }
 {
@@ -54,7 +54,7 @@ pub(crate) fn add_openings(
     place: usize,
     groups: &mut Vec<Group>,
 ) -> Result<(), Memory>
-    ensures alike { OnOk result ((rest : List Bounded) → AreAlike rest (courses groups.old.items ++ courses_at base tags.items) (courses groups.new.items)) }
+    ensures alike { OnOk result (AddsCourses groups.old.items (courses_at base tags.items) groups.new.items) }
     ensures reached { OnOk result ((t : TailoringParts) (rs : List Bounded) (limit : ℕ) → place ≤ limit → IsFormedFound t base
         → All (IsReached t rs place limit) groups.old.items → All (IsReached t rs place limit) groups.new.items) }
 {
@@ -82,7 +82,7 @@ fn place_of(groups: &[Group], base: &Option<Items<Option<Structure>>>) -> Option
 /// Adds openings to a group.
 fn join(groups: &mut Vec<Group>, number: usize, tags: &[u64]) -> Result<(), Memory>
     requires { number < length groups.old.items }
-    ensures { OnOk result (HoldsAt (λ g. groups.new.items ≡ (take number groups.old.items ++ drop (number + 1) groups.old.items) ++ with_tags g tags.now ∷ []) groups.old.items number) }
+    ensures { OnOk result (HoldsAt (λ g. groups.new.items ≡ joined groups.old.items number g tags.now) groups.old.items number) }
 {
     let Group {
         tags: earlier,

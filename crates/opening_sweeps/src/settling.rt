@@ -8,7 +8,7 @@ ghost use Rattle.definition_intervals.specs.Founds.{IsFormedFound};
 ghost use Rattle.opening_sweeps.specs.Requests as requests;
 ghost use Rattle.opening_sweeps.specs.Requests.{Bounded, IsFormedRequest, AreRising};
 ghost use Rattle.opening_sweeps.specs.Courses.{Course, AreAlike, course_after, course_after_all, found_by_one};
-ghost use Rattle.opening_sweeps.specs.Groups.{courses, courses_of, courses_at, is_past, is_sure, is_unsure, IsReached};
+ghost use Rattle.opening_sweeps.specs.Groups.{courses, courses_of, courses_at, is_past, is_sure, is_unsure, AddsCourses, IsReached, StayReached};
 ghost use Rattle.opening_sweeps.specs.declared.group.Group as declared;
 
 use crate::bounded::Bounded;
@@ -34,9 +34,11 @@ pub(crate) fn settle(
     requires rising { AreRising requests.now }
     requires formed { All (IsFormedRequest tailoring.now) requests.now }
     requires bases { All (λ (g : declared.Group). IsFormedFound tailoring.now g.base) groups.items }
-    ensures alike { IfOk result (λ later. (ks : List Course) → AreAlike (drop from requests.now) (map (course_after_all tailoring.now (take from requests.now)) ks) (courses groups.items)
+    ensures alike { IfOk result (λ later. (ks : List Course)
+        → AreAlike (drop from requests.now) (map (course_after_all tailoring.now (take from requests.now)) ks) (courses groups.items)
         → AreAlike (drop to requests.now) (map (course_after_all tailoring.now (take to requests.now)) ks) (courses later.items)) }
-    ensures reached { IfOk result (λ later. (limit : ℕ) → to ≤ limit → All (IsReached tailoring.now requests.now from limit) groups.items → All (IsReached tailoring.now requests.now to limit) later.items) }
+    ensures reached { IfOk result (λ later. (limit : ℕ) → to ≤ limit → All (IsReached tailoring.now requests.now from limit) groups.items
+        → All (IsReached tailoring.now requests.now to limit) later.items) }
 {
     same_is_found();
     let mut groups = groups;
@@ -80,7 +82,7 @@ fn settle_group(
     requires base { IsFormedFound tailoring.now group.now.base }
     ensures alike { OnOk result ((rest : List Bounded) → AreRising (request.now ∷ rest)
         → AreAlike rest (courses groups.old.items ++ map (course_after tailoring.now request.now) (courses_of group.now)) (courses groups.new.items)) }
-    ensures reached { OnOk result ((rs : List Bounded) → All (IsReached tailoring.now rs place place) groups.old.items → All (IsReached tailoring.now rs place place) groups.new.items) }
+    ensures reached { OnOk result (StayReached tailoring.now place place groups.old.items groups.new.items) }
 {
     let tags = group.tags.as_slice();
     let past = past_tags(alloc, request, tags)?;
@@ -108,8 +110,9 @@ fn add_past(
     place: usize,
     groups: &mut Vec<Group>,
 ) -> Result<(), Memory>
-    ensures alike { OnOk result ((rest : List Bounded) → AreAlike rest (courses groups.old.items ++ courses_at base.now tags.items) (courses groups.new.items)) }
-    ensures reached { OnOk result ((t : TailoringParts) (rs : List Bounded) → IsFormedFound t base.now → All (IsReached t rs place place) groups.old.items → All (IsReached t rs place place) groups.new.items) }
+    ensures alike { OnOk result (AddsCourses groups.old.items (courses_at base.now tags.items) groups.new.items) }
+    ensures reached { OnOk result ((t : TailoringParts) (rs : List Bounded) → IsFormedFound t base.now
+        → All (IsReached t rs place place) groups.old.items → All (IsReached t rs place place) groups.new.items) }
 {
     if tags.is_empty() {
         return Ok(());
@@ -129,8 +132,9 @@ fn add_settled(
 ) -> Result<(), Memory>
     requires request { IsFormedCandidate tailoring.now request.now }
     requires base { IsFormedFound tailoring.now base.now }
-    ensures alike { OnOk result ((rest : List Bounded) → AreAlike rest (courses groups.old.items ++ courses_at (found_by_one tailoring.now (Some request.now) base.now) tags.items) (courses groups.new.items)) }
-    ensures reached { OnOk result ((rs : List Bounded) → All (IsReached tailoring.now rs place place) groups.old.items → All (IsReached tailoring.now rs place place) groups.new.items) }
+    ensures alike { OnOk result (AddsCourses groups.old.items (courses_at (found_by_one tailoring.now (Some request.now) base.now) tags.items)
+        groups.new.items) }
+    ensures reached { OnOk result (StayReached tailoring.now place place groups.old.items groups.new.items) }
 {
     if tags.is_empty() {
         return Ok(());

@@ -1,16 +1,16 @@
 //! The sweep over tags.
-ghost use Rattle.std.specs.Prelude.{◌≡◌, ◌≤◌, ◌<◌, ℕ, List, [], ◌∷◌, ◌++◌, IfOk, IfSome, All, length, take, drop, unwrap_or, option_to_list, map, if◌then◌else◌};
+ghost use Rattle.std.specs.Prelude.{◌≡◌, ◌≤◌, ◌<◌, ℕ, List, [], ◌∷◌, IfOk, IfSome, All, length, take, drop, option_to_list, map, if◌then◌else◌};
 ghost use Rattle.std.specs.List.{IsDistinct};
 ghost use Rattle.std.specs.List.Sorted.{IsStrictlyIncreasing};
 ghost use Rattle.hk_base.specs.TailoringParts.{TailoringParts};
 ghost use Rattle.definition_intervals.specs.States.{state_eq};
 ghost use Rattle.definition_intervals.specs.Bases.{AreBases, IsFormedBasis};
-ghost use Rattle.definition_intervals.specs.Founds.{IsBasisOf, IsFormedFound, first_after_all};
+ghost use Rattle.definition_intervals.specs.Founds.{IsBasisOf};
 ghost use Rattle.opening_sweeps.specs.Requests as known;
 ghost use Rattle.opening_sweeps.specs.Requests.{AreRising, HaveRisingStarts, IsFormedRequest, IsFormedStart};
 ghost use Rattle.opening_sweeps.specs.Courses.{AreAlike, course_of};
-ghost use Rattle.opening_sweeps.specs.Groups.{courses, finds, unsure, IsReached};
-ghost use Rattle.opening_sweeps.specs.Sweeps.{IsSwept, last_tag};
+ghost use Rattle.opening_sweeps.specs.Groups.{courses, finds, AddsCourses, HaveFormedFinds, IsReached};
+ghost use Rattle.opening_sweeps.specs.Sweeps.{IsSwept, last_tag, named_in};
 ghost use Rattle.opening_sweeps.specs.declared.group.Group as declared;
 
 use crate::bounded::Bounded;
@@ -97,7 +97,8 @@ fn first_tag(boot: &Option<Start<'_>>) -> u64
 
 fn first_groups(alloc: Global, boot: Option<Start<'_>>) -> Result<Vec<Group>, Memory>
     ensures alike { IfOk result (λ groups. (rest : List known.Bounded) → AreAlike rest (map course_of (option_to_list boot.entry)) (courses groups.items)) }
-    ensures reached { IfOk result (λ groups. (t : TailoringParts) (rs : List known.Bounded) → IfSome boot.entry (IsFormedStart t) → All (IsReached t rs 0 0) groups.items) }
+    ensures reached { IfOk result (λ groups. (t : TailoringParts) (rs : List known.Bounded) → IfSome boot.entry (IsFormedStart t)
+        → All (IsReached t rs 0 0) groups.items) }
 {
     let mut groups = Vec::new(alloc);
     let Some(start) = boot else {
@@ -186,7 +187,7 @@ fn open(
 ) -> Result<Vec<Group>, Memory>
     requires order { from ≤ to }
     requires within { to ≤ length starts.now }
-    ensures alike { IfOk result (λ later. (rest : List known.Bounded) → AreAlike rest (courses groups.items ++ map course_of (drop from (take to starts.now))) (courses later.items)) }
+    ensures alike { IfOk result (λ later. AddsCourses groups.items (map course_of (drop from (take to starts.now))) later.items) }
     ensures reached { IfOk result (λ later. (t : TailoringParts) (rs : List known.Bounded) (limit : ℕ) → settled ≤ limit → All (IsFormedStart t) starts.now
         → All (IsReached t rs settled limit) groups.items → All (IsReached t rs settled limit) later.items) }
 {
@@ -202,8 +203,8 @@ fn basis(alloc: Global, requests: &[Bounded<'_>], sweep: &Sweep) -> Result<Basis
     requires order { sweep.now.settled ≤ sweep.now.listed }
     requires within { sweep.now.listed ≤ length requests.now }
     requires once { All (λ (g : declared.Group). IfSome g.found (IsDistinct state_eq)) sweep.now.groups.items }
-    ensures basis { IfOk result (IsBasisOf (finds sweep.now.groups.items) (unwrap_or (first_after_all (unsure (drop sweep.now.settled (take sweep.now.listed requests.now))) sweep.now.first) 0)) }
-    ensures formed { IfOk result (λ basis. (t : TailoringParts) → All (λ (g : declared.Group). IsFormedFound t g.found) sweep.now.groups.items → IsFormedBasis t basis) }
+    ensures basis { IfOk result (IsBasisOf (finds sweep.now.groups.items) (named_in requests.now sweep.now)) }
+    ensures formed { IfOk result (λ basis. (t : TailoringParts) → HaveFormedFinds t sweep.now.groups.items → IsFormedBasis t basis) }
 {
     if sweep.groups.is_empty() {
         return Ok(Basis::NoOpening);

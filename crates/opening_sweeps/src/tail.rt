@@ -52,7 +52,8 @@ fn reach_one(
     ensures tags { IfOk result (λ later. later.tags ≡ group.tags) }
     ensures base { IfOk result (λ later. later.base ≡ group.base) }
     ensures reached { IfOk result (λ later. later.reached ≡ to) }
-    ensures found { IfOk result (λ later. (settled : ℕ) → IsReached tailoring.now requests.now settled to group → IsReached tailoring.now requests.now settled to later) }
+    ensures found { IfOk result (λ later. (settled : ℕ) → IsReached tailoring.now requests.now settled to group
+        → IsReached tailoring.now requests.now settled to later) }
 {
     let Group {
         tags,

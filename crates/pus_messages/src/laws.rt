@@ -19,7 +19,8 @@ pub fn protocols()
 
 /// A request of the grammar is read from its packet, and from no other octets. The calls are the laws that it stands on.
 pub fn requests_are_spelled()
-    ensures again { (t : TailoringParts) (r : Request) (octets : List ℕ) → IsFit t → AreOctets octets → IsRequestPacket t r octets → request_of t octets ≡ Ok r }
+    ensures again { (t : TailoringParts) (r : Request) (octets : List ℕ) → IsFit t → AreOctets octets → IsRequestPacket t r octets
+        → request_of t octets ≡ Ok r }
     ensures only { (t : TailoringParts) (r : Request) (octets : List ℕ) → AreOctets octets → request_of t octets ≡ Ok r → IsRequestPacket t r octets }
 {
     packets();

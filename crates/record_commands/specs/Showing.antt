@@ -25,6 +25,10 @@ lines_to_come t (Ok x) = lines_of t x.1.list
 unfoldable pub show_text : TailoringParts → List ℕ → List ℕ
 show_text t octets = lines_to_come t (read_record octets)
 
+-- what holds where the shelf tells the octets that it has left, and the sink's room is told and enough for all their lines
+abbrev pub WithRoom : TailoringParts → Option (List ℕ) → Option ℕ → Type 0 → Type 0
+WithRoom t left before Claim = IfSome left (λ octets. IfSome before (λ room. length (show_text t octets) ≤ room → Claim))
+
 -- the lines were written of every entry whose octets the shelf gave in full before it failed
 abbrev pub IsShownAsGiven : TailoringParts → List ℕ → Option (List ℕ) → Option (List ℕ) → Option (List ℕ) → Type 0
 IsShownAsGiven t octets left before after = IfSome left (λ rest. (given : List ℕ) × (octets ≡ given ++ rest) × IsWritten before (show_text t given) after) × IsSome left

@@ -1,8 +1,8 @@
 //! A line for each entry of a record.
-ghost use Rattle.std.specs.Prelude.{◌≡◌, ◌≤◌, ◌+◌, length, Result, Option, Some, None, IsErrOf, IfSome, IsSome, IfOk, OnOk};
+ghost use Rattle.std.specs.Prelude.{◌≡◌, ◌+◌, Result, Option, Some, None, IsErrOf, IfSome, IsSome, IfOk, OnOk};
 ghost use Rattle.hk_base.specs.Outside.{HasRisen};
 ghost use Rattle.session_record.specs.Reading.{Reading, reading_at_start, to_come};
-ghost use Rattle.record_commands.specs.Showing.{show_text, Shows, TakesLine};
+ghost use Rattle.record_commands.specs.Showing.{Shows, TakesLine, WithRoom};
 
 use crate::lines::entry_line;
 use crate::trim::PIECE_OCTETS;
@@ -54,7 +54,7 @@ pub fn show<F: Shelf, K: Sink>(
     ensures read_fault { IsErrOf result (ShowFault.Record RecordFault.ReadFault) → HasRisen (F.faults shelf.old) (F.faults shelf.new) }
     ensures write_fault { IsErrOf result ShowFault.WriteFault → HasRisen (K.faults sink.old) (K.faults sink.new) }
     ensures sound { F.is_sound shelf.old → IsSome (F.rest shelf.old) → F.faults shelf.new ≡ F.faults shelf.old }
-    ensures room { IfSome (F.rest shelf.old) (λ octets. IfSome (K.room sink.old) (λ room. length (show_text tailoring.now octets) ≤ room → K.faults sink.new ≡ K.faults sink.old)) }
+    ensures room { WithRoom tailoring.now (F.rest shelf.old) (K.room sink.old) (K.faults sink.new ≡ K.faults sink.old) }
 {
     let mut reader = RecordReader::new(alloc, PIECE_OCTETS)?;
     show_entries(alloc, tailoring, &mut reader, shelf, sink)
@@ -73,7 +73,7 @@ fn show_entries<F: Shelf, K: Sink>(
     ensures read_fault { IsErrOf result (ShowFault.Record RecordFault.ReadFault) → HasRisen (F.faults shelf.old) (F.faults shelf.new) }
     ensures write_fault { IsErrOf result ShowFault.WriteFault → HasRisen (K.faults sink.old) (K.faults sink.new) }
     ensures sound { F.is_sound shelf.old → IsSome (F.rest shelf.old) → F.faults shelf.new ≡ F.faults shelf.old }
-    ensures room { IfSome (F.rest shelf.old) (λ octets. IfSome (K.room sink.old) (λ room. length (show_text tailoring.now octets) ≤ room → K.faults sink.new ≡ K.faults sink.old)) }
+    ensures room { WithRoom tailoring.now (F.rest shelf.old) (K.room sink.old) (K.faults sink.new ≡ K.faults sink.old) }
 {
     while let Some(line) = next_line(alloc, tailoring, reader, shelf)? {
         if write_all(sink, line.as_slice()).is_err() {

@@ -66,7 +66,8 @@ fn keep_whole<F: Shelf>(
     shelf: &mut F,
 ) -> Result<(), RecordFault>
     requires { IfSome first (λ entry. length (held_octets entry) ≤ 2 ^ 31) }
-    ensures kept { IfSome (F.rest shelf.old) (λ left. (given : Result (List ℕ) RecordFault) → IsTrimmed given draft.old.octets.items first (to_come reader.old left) → IsKept given result draft.new.octets.items) }
+    ensures kept { IfSome (F.rest shelf.old) (λ left. (given : Result (List ℕ) RecordFault)
+        → IsTrimmed given draft.old.octets.items first (to_come reader.old left) → IsKept given result draft.new.octets.items) }
     ensures failed { IsErrOf result RecordFault.ReadFault → HasRisen (F.faults shelf.old) (F.faults shelf.new) }
     ensures sound { F.is_sound shelf.old → IsSome (F.rest shelf.old) → F.faults shelf.new ≡ F.faults shelf.old }
 {

@@ -114,7 +114,8 @@ fn set_interval(
     before: &Structure,
 ) -> Result<Option<Structure>, ApplyFault>
     requires { All (λ array. 1 ≤ array.repetition) before.now.def.arrays }
-    ensures { Gives result (state_unless (if_uneven interval before.now.def.arrays ∷ []) (Some (with_definition before.now (record before.now.def { interval = interval })))) }
+    ensures { Gives result (state_unless (if_uneven interval before.now.def.arrays ∷ [])
+        (Some (with_definition before.now (record before.now.def { interval = interval })))) }
 {
     check_even(interval, before.def.arrays.as_slice())?;
     let mut after = before.copy(alloc)?;

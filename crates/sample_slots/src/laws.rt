@@ -11,8 +11,12 @@ ghost use Rattle.sample_slots.specs.Slots.{IsSampled};
 /// one for each place. Whether values fit their places doesn't hang on the last slot.
 pub fn payloads()
     ensures sampled { (t : TailoringParts) (d : Definition) → IsFitWidths t.widths → IsWellFormed t d → IsSampled d }
-    ensures read { (t : TailoringParts) (d : Definition) (values : List ℤ) (octets : List ℕ) → IsFit t → IsPayload t d values octets → payload_read t d octets ≡ Ok values }
-    ensures whole { (t : TailoringParts) (d : Definition) (values : List ℤ) (octets : List ℕ) → IsWellFormed t d → payload_read t d octets ≡ Ok values → IsPayload t d values octets }
-    ensures count { (t : TailoringParts) (d : Definition) (values : List ℤ) (octets : List ℕ) (last : ℕ) → IsWellFormed t d → payload_read t d octets ≡ Ok values → length values ≡ length (places d last) }
-    ensures anywhere { (t : TailoringParts) (d : Definition) (values : List ℤ) (last other : ℕ) → AllFit t (places d last) values → AllFit t (places d other) values }
+    ensures read { (t : TailoringParts) (d : Definition) (values : List ℤ) (octets : List ℕ) → IsFit t → IsPayload t d values octets
+        → payload_read t d octets ≡ Ok values }
+    ensures whole { (t : TailoringParts) (d : Definition) (values : List ℤ) (octets : List ℕ) → IsWellFormed t d
+        → payload_read t d octets ≡ Ok values → IsPayload t d values octets }
+    ensures count { (t : TailoringParts) (d : Definition) (values : List ℤ) (octets : List ℕ) (last : ℕ) → IsWellFormed t d
+        → payload_read t d octets ≡ Ok values → length values ≡ length (places d last) }
+    ensures anywhere { (t : TailoringParts) (d : Definition) (values : List ℤ) (last other : ℕ)
+        → AllFit t (places d last) values → AllFit t (places d other) values }
 {}

@@ -95,7 +95,8 @@ fn read_arrays(
     requires first { first ≤ 1 }
     requires count { length values.old.items ≤ 255 }
     requires whole { length bytes.now ≡ sum_by (array_octets tailoring.now) arrays.now }
-    ensures { (interval : ℕ) → Gives (λ _. values.new.items) result (groups_after tailoring.now values.old.items first (flat_map (array_groups interval) arrays.now) (bits_of bytes.now)) }
+    ensures { (interval : ℕ) → Gives (λ _. values.new.items) result
+        (groups_after tailoring.now values.old.items first (flat_map (array_groups interval) arrays.now) (bits_of bytes.now)) }
 {
     let mut rest = bytes;
     let mut group = first;
@@ -118,7 +119,9 @@ fn read_array<'a>(
     requires first { first ≤ 1044481 }
     requires count { length values.old.items ≤ 266342655 }
     requires within { array_octets tailoring.now array.now ≤ length bytes.now }
-    ensures values { (spacing : ℕ) → GoesOn (λ rest. rest.now) tailoring.now values.old.items values.new.items first (first + array.now.repetition) (repetitions array.now.params spacing array.now.repetition) bytes.now result }
+    ensures values { (spacing : ℕ)
+        → GoesOn (λ rest. rest.now) tailoring.now values.old.items values.new.items first (first + array.now.repetition)
+        (repetitions array.now.params spacing array.now.repetition) bytes.now result }
     ensures left { IfOk result (λ rest. length rest.now + array_octets tailoring.now array.now ≡ length bytes.now) }
     ensures count { OnOk result (length values.new.items ≡ length values.old.items + array.now.repetition * length array.now.params) }
 {
@@ -147,7 +150,9 @@ fn read_group<'a>(
     requires few { length ids.now ≤ 255 }
     requires within { ids_octets tailoring.now.params ids.now ≤ length bytes.now }
     requires count { length values.old.items + length ids.now < 2 ^ 32 }
-    ensures values { (lag : ℕ) → GoesOn (λ rest. rest.now) tailoring.now values.old.items values.new.items group (group + 1) (record { lag = lag; params = ids.now } ∷ []) bytes.now result }
+    ensures values { (lag : ℕ)
+        → GoesOn (λ rest. rest.now) tailoring.now values.old.items values.new.items group (group + 1)
+        (record { lag = lag; params = ids.now } ∷ []) bytes.now result }
     ensures left { IfOk result (λ rest. length rest.now + ids_octets tailoring.now.params ids.now ≡ length bytes.now) }
     ensures count { OnOk result (length values.new.items ≡ length values.old.items + length ids.now) }
 {

@@ -9,7 +9,8 @@ ghost use Rattle.st01_reports.specs.Spelling.{verification_octets, IsVerificatio
 
 /// A report is read from its spelling, and from no other octets.
 pub fn reports_are_spelled()
-    ensures again { (t : TailoringParts) (v : Verification) → 1 ≤ t.widths.count_octets → IsVerification t v → report_body t (spelling.subtype v) (verification_octets t v) ≡ Some (Ok v) }
+    ensures again { (t : TailoringParts) (v : Verification) → 1 ≤ t.widths.count_octets → IsVerification t v
+        → report_body t (spelling.subtype v) (verification_octets t v) ≡ Some (Ok v) }
     ensures only { (t : TailoringParts) (number : ℕ) (octets : List ℕ) (v : Verification) → AreOctets octets → report_body t number octets ≡ Some (Ok v)
         → IsSpelledReport t number v octets }
 {}

@@ -33,7 +33,8 @@ impl Request03 {
     pub fn on_key(&self, key: Key) -> Option<(u32, Change<'_>)>
         requires { length (structure_changes self.now) ≤ 2 ^ 31 }
         ensures first { option_map numbered_change result ≡ instruction_on self.now key }
-        ensures only { (n : ℕ) (change : StructureChange) → AreKeysApart self.now → instruction_at self.now n ≡ Some (key, change) → option_map numbered_change result ≡ Some (n, change) }
+        ensures only { (n : ℕ) (change : StructureChange) → AreKeysApart self.now
+            → instruction_at self.now n ≡ Some (key, change) → option_map numbered_change result ≡ Some (n, change) }
     {
         self.first_on(key)
     }

@@ -51,7 +51,8 @@ struct ArrayParams<'t> {
 impl ReadMember for ArrayParams<'_> {
     type Member = u32;
 
-    ghost reader = { λ params earlier octets. param_field params.tailoring.now (array_view params.once params.simple.now (reverse params.arrays.now) earlier) octets };
+    ghost reader = { λ params earlier octets.
+        param_field params.tailoring.now (array_view params.once params.simple.now (reverse params.arrays.now) earlier) octets };
 
     fn read_member<'a>(
         &self,

@@ -3,7 +3,7 @@ use Rattle.std.proofs.lemmas.Result.{err_from_is_err_and}
 use Rattle.session_record.specs.declared.entry.WriteFault.{WriteFault}
 use Rattle.ground_history.specs.Histories.{Kept}
 use Rattle.session_texts.specs.Blocks.{block}
-use Rattle.decommutator.specs.Output.{seen_as, Proceeds}
+use Rattle.decommutator.specs.Output.{as_seen, Proceeds}
 use Rattle.decommutator.proofs.OutputLemmas.{memory-stops, stops}
 use Rattle.decommutator.proofs.blocks.write_blocks.Goals as goal
 
@@ -11,8 +11,8 @@ pub returns-in_err-put_block : goal.returns-in_err-put_block
 returns-in_err-put_block g c =
     let f = block c.args.verdicts.now.tailoring c.args.verdicts.now.history in
     let start = c.args.out.now.items ++ flat_map f c.args.verdicts.now.history.kept in
-    let from = seen_as (g.K.Sink.taken c.args.sink.now) (g.K.Sink.faults c.args.sink.now) (g.K.Sink.room c.args.sink.now) in
-    let now = seen_as (g.K.Sink.taken c.loop-kept.sink) (g.K.Sink.faults c.loop-kept.sink) (g.K.Sink.room c.loop-kept.sink) in
+    let from = as_seen g.K.Sink c.args.sink.now in
+    let now = as_seen g.K.Sink c.loop-kept.sink in
     let p = err_from_is_err_and c.from_residual.result c.from_residual.ensures.1 in
     let Q : Result Unit WriteFault → Type 0 = λ result. Proceeds start from result c.put_block.new.out.items now in
     let R : WriteFault → Type 0 = λ fault. Q (Err fault) in
@@ -22,9 +22,9 @@ pub returns-in_err-write_piece : goal.returns-in_err-write_piece
 returns-in_err-write_piece g c =
     let f = block c.args.verdicts.now.tailoring c.args.verdicts.now.history in
     let start = c.args.out.now.items ++ flat_map f c.args.verdicts.now.history.kept in
-    let from = seen_as (g.K.Sink.taken c.args.sink.now) (g.K.Sink.faults c.args.sink.now) (g.K.Sink.room c.args.sink.now) in
-    let mid = seen_as (g.K.Sink.taken c.loop-kept.sink) (g.K.Sink.faults c.loop-kept.sink) (g.K.Sink.room c.loop-kept.sink) in
-    let now = seen_as (g.K.Sink.taken c.write_piece.new.sink) (g.K.Sink.faults c.write_piece.new.sink) (g.K.Sink.room c.write_piece.new.sink) in
+    let from = as_seen g.K.Sink c.args.sink.now in
+    let mid = as_seen g.K.Sink c.loop-kept.sink in
+    let now = as_seen g.K.Sink c.write_piece.new.sink in
     let others = c.write_piece.new.out.items in
     let fault = c.in_err-write_piece.field-0.0 in
     let p = err_from_is_err_and c.from_residual-in_err-write_piece.result c.from_residual-in_err-write_piece.ensures.1 in

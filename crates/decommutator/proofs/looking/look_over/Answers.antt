@@ -1,7 +1,7 @@
 use Rattle.std.proofs.Common.{arith, ◌≡◌, ◌<◌, ◌++◌, List, ℕ, Result, Ok, Err, flat_map, length, true, sym, subst}
 use Rattle.std.proofs.lemmas.Result.{err_from_is_err_and}
 use Rattle.session_record.specs.declared.entry.WriteFault.{WriteFault}
-use Rattle.decommutator.specs.Output.{seen_as, Proceeds}
+use Rattle.decommutator.specs.Output.{as_seen, Proceeds}
 use Rattle.decommutator.specs.Due.{due_text, waits, is_same}
 use Rattle.decommutator.proofs.OutputLemmas.{memory-stops}
 use Rattle.decommutator.proofs.LookLemmas.{goes-next, stops-next, waits-next, all-next}
@@ -11,8 +11,8 @@ pub returns-in_err-look_at-clause-text : goal.returns-in_err-look_at-clause-text
 returns-in_err-look_at-clause-text g c =
     let f = due_text c.args.history.now in
     let start = c.args.out.now.items ++ flat_map f c.args.tags.now in
-    let from = seen_as (g.K.Sink.taken c.args.sink.now) (g.K.Sink.faults c.args.sink.now) (g.K.Sink.room c.args.sink.now) in
-    let now = seen_as (g.K.Sink.taken c.loop-tag.sink) (g.K.Sink.faults c.loop-tag.sink) (g.K.Sink.room c.loop-tag.sink) in
+    let from = as_seen g.K.Sink c.args.sink.now in
+    let now = as_seen g.K.Sink c.loop-tag.sink in
     let p = err_from_is_err_and c.from_residual.result c.from_residual.ensures.1 in
     let Q : Result Unit WriteFault → Type 0 = λ result. Proceeds start from result c.look_at.new.out.items now in
     let R : WriteFault → Type 0 = λ fault. Q (Err fault) in
@@ -25,9 +25,9 @@ returns-in_err-write_piece-clause-text g c =
     let tags = c.args.tags.now in
     let within : i < length tags = omega arith in
     let start = c.args.out.now.items ++ flat_map f tags in
-    let from = seen_as (g.K.Sink.taken c.args.sink.now) (g.K.Sink.faults c.args.sink.now) (g.K.Sink.room c.args.sink.now) in
-    let mid = seen_as (g.K.Sink.taken c.loop-tag.sink) (g.K.Sink.faults c.loop-tag.sink) (g.K.Sink.room c.loop-tag.sink) in
-    let now = seen_as (g.K.Sink.taken c.write_piece.new.sink) (g.K.Sink.faults c.write_piece.new.sink) (g.K.Sink.room c.write_piece.new.sink) in
+    let from = as_seen g.K.Sink c.args.sink.now in
+    let mid = as_seen g.K.Sink c.loop-tag.sink in
+    let now = as_seen g.K.Sink c.write_piece.new.sink in
     let others = c.write_piece.new.out.items in
     let fault = c.in_err-write_piece.field-0.0 in
     let p = err_from_is_err_and c.from_residual-in_err-write_piece.result c.from_residual-in_err-write_piece.ensures.1 in
@@ -44,9 +44,9 @@ loop-tag-preserved g c =
     let tags = c.args.tags.now in
     let within : i < length tags = omega arith in
     let start = c.args.out.now.items ++ flat_map f tags in
-    let from = seen_as (g.K.Sink.taken c.args.sink.now) (g.K.Sink.faults c.args.sink.now) (g.K.Sink.room c.args.sink.now) in
-    let mid = seen_as (g.K.Sink.taken c.loop-tag.sink) (g.K.Sink.faults c.loop-tag.sink) (g.K.Sink.room c.loop-tag.sink) in
-    let now = seen_as (g.K.Sink.taken c.write_piece.new.sink) (g.K.Sink.faults c.write_piece.new.sink) (g.K.Sink.room c.write_piece.new.sink) in
+    let from = as_seen g.K.Sink c.args.sink.now in
+    let mid = as_seen g.K.Sink c.loop-tag.sink in
+    let now = as_seen g.K.Sink c.write_piece.new.sink in
     let others = c.write_piece.new.out.items in
     let N : List ℕ → Type 0 = λ octets. Proceeds octets mid (Ok tt) others now in
     let second = subst N c.in_ok-look_at.ensures.block c.in_ok-write_piece.ensures in

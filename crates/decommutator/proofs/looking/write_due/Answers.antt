@@ -1,7 +1,7 @@
 use Rattle.std.proofs.Common.{◌≡◌, ◌++◌, [], List, ℕ, Result, Ok, Err, flat_map, filter, sym, subst, ap, ◌∙◌}
 use Rattle.std.proofs.lemmas.Result.{err_from_is_err_and}
 use Rattle.session_record.specs.declared.entry.WriteFault.{WriteFault}
-use Rattle.decommutator.specs.Output.{seen_as, Proceeds}
+use Rattle.decommutator.specs.Output.{as_seen, Proceeds}
 use Rattle.decommutator.specs.Due.{due_text, waits}
 use Rattle.decommutator.proofs.OutputLemmas.{memory-stops}
 use Rattle.decommutator.proofs.LookLemmas.{WaitOn, later-wait, none-due, none-leave, due-later, left-later, gathered, nothing-written, as-it-was, ended, on-ok}
@@ -9,7 +9,7 @@ use Rattle.decommutator.proofs.looking.write_due.Goals as goal
 
 pub returns-in_default-clause-text : goal.returns-in_default-clause-text
 returns-in_default-clause-text g c =
-    let from = seen_as (g.K.Sink.taken c.args.sink.now) (g.K.Sink.faults c.args.sink.now) (g.K.Sink.room c.args.sink.now) in
+    let from = as_seen g.K.Sink c.args.sink.now in
     let tags = c.args.waiting.now.items in
     nothing-written (flat_map (due_text c.args.history.now) tags) from (none-due c.args.changed c.args.history.now tags c.in_default.ensures c.requires.same)
 
@@ -18,7 +18,7 @@ returns-in_default-clause-waiting g c = none-leave c.args.changed c.args.history
 
 pub returns-in_err-tags-clause-text : goal.returns-in_err-tags-clause-text
 returns-in_err-tags-clause-text g c =
-    let from = seen_as (g.K.Sink.taken c.args.sink.now) (g.K.Sink.faults c.args.sink.now) (g.K.Sink.room c.args.sink.now) in
+    let from = as_seen g.K.Sink c.args.sink.now in
     let text = flat_map (due_text c.args.history.now) c.args.waiting.now.items in
     let p = err_from_is_err_and c.from_residual.result c.from_residual.ensures.1 in
     let Q : Result Unit WriteFault → Type 0 = λ result. Proceeds text from result [] from in
@@ -35,8 +35,8 @@ pub returns-in_err-look_over-clause-text : goal.returns-in_err-look_over-clause-
 returns-in_err-look_over-clause-text g c =
     let f = due_text c.args.history.now in
     let all = c.args.waiting.now.items in
-    let from = seen_as (g.K.Sink.taken c.args.sink.now) (g.K.Sink.faults c.args.sink.now) (g.K.Sink.room c.args.sink.now) in
-    let now = seen_as (g.K.Sink.taken c.look_over.new.sink) (g.K.Sink.faults c.look_over.new.sink) (g.K.Sink.room c.look_over.new.sink) in
+    let from = as_seen g.K.Sink c.args.sink.now in
+    let now = as_seen g.K.Sink c.look_over.new.sink in
     let out = c.look_over.new.out.items in
     let fault = c.in_err-look_over.field-0.0 in
     let told = c.in_ok-tags.ensures in
@@ -54,9 +54,9 @@ pub returns-clause-text : goal.returns-clause-text
 returns-clause-text g c =
     let f = due_text c.args.history.now in
     let all = c.args.waiting.now.items in
-    let from = seen_as (g.K.Sink.taken c.args.sink.now) (g.K.Sink.faults c.args.sink.now) (g.K.Sink.room c.args.sink.now) in
-    let mid = seen_as (g.K.Sink.taken c.look_over.new.sink) (g.K.Sink.faults c.look_over.new.sink) (g.K.Sink.room c.look_over.new.sink) in
-    let now = seen_as (g.K.Sink.taken c.write_gathered.new.sink) (g.K.Sink.faults c.write_gathered.new.sink) (g.K.Sink.room c.write_gathered.new.sink) in
+    let from = as_seen g.K.Sink c.args.sink.now in
+    let mid = as_seen g.K.Sink c.look_over.new.sink in
+    let now = as_seen g.K.Sink c.write_gathered.new.sink in
     let out = c.look_over.new.out.items in
     let told = c.in_ok-tags.ensures in
     let same : c.new-out.result.items ++ flat_map f c.as_slice.result.now ≡ flat_map f all =

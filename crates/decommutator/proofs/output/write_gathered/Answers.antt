@@ -1,14 +1,14 @@
 use Rattle.std.proofs.Common.{List, ℕ, [], Result, Ok, Err, subst, sym}
 use Rattle.std.proofs.lemmas.Result.{err_from_is_err_and}
 use Rattle.session_record.specs.declared.entry.WriteFault.{WriteFault}
-use Rattle.decommutator.specs.Output.{seen_as, Proceeds}
+use Rattle.decommutator.specs.Output.{as_seen, Proceeds}
 use Rattle.decommutator.proofs.OutputLemmas.{piece-written, piece-failed}
 use Rattle.decommutator.proofs.output.write_gathered.Goals as goal
 
 pub returns-in_err-write_all-clause-proceeds : goal.returns-in_err-write_all-clause-proceeds
 returns-in_err-write_all-clause-proceeds g c =
-    let from = seen_as (g.K.Sink.taken c.args.sink.now) (g.K.Sink.faults c.args.sink.now) (g.K.Sink.room c.args.sink.now) in
-    let now = seen_as (g.K.Sink.taken c.write_all.new.sink) (g.K.Sink.faults c.write_all.new.sink) (g.K.Sink.room c.write_all.new.sink) in
+    let from = as_seen g.K.Sink c.args.sink.now in
+    let now = as_seen g.K.Sink c.write_all.new.sink in
     let fault = c.in_err-write_all.field-0.0 in
     let told = c.in_err-write_all.ensures in
     let p = err_from_is_err_and c.from_residual.result c.from_residual.ensures.1 in
@@ -19,8 +19,8 @@ returns-in_err-write_all-clause-proceeds g c =
 
 pub returns-clause-proceeds : goal.returns-clause-proceeds
 returns-clause-proceeds g c =
-    let from = seen_as (g.K.Sink.taken c.args.sink.now) (g.K.Sink.faults c.args.sink.now) (g.K.Sink.room c.args.sink.now) in
-    let now = seen_as (g.K.Sink.taken c.write_all.new.sink) (g.K.Sink.faults c.write_all.new.sink) (g.K.Sink.room c.write_all.new.sink) in
+    let from = as_seen g.K.Sink c.args.sink.now in
+    let now = as_seen g.K.Sink c.write_all.new.sink in
     let told = c.in_ok-write_all.ensures in
     let P : List ℕ → Type 0 = λ octets. Proceeds octets from (Ok tt) [] now in
     subst P c.as_slice.ensures.value (piece-written c.as_slice.result.now from now told.written told.count told.room)

@@ -3,7 +3,7 @@ use Rattle.std.proofs.lemmas.Result.{err_from_is_err_and}
 use Rattle.session_record.specs.declared.entry.WriteFault.{WriteFault}
 use Rattle.session_texts.specs.Blocks.{block}
 use Rattle.block_lines.specs.Counts.{lines_of}
-use Rattle.decommutator.specs.Output.{seen_as, Proceeds, HasEnded}
+use Rattle.decommutator.specs.Output.{as_seen, Proceeds, HasEnded}
 use Rattle.decommutator.proofs.OutputLemmas.{blocks-failed, lines-failed, text-ended}
 use Rattle.decommutator.proofs.text.write_lines.Goals as goal
 
@@ -11,8 +11,8 @@ pub returns-in_err-write_blocks : goal.returns-in_err-write_blocks
 returns-in_err-write_blocks g c =
     let blocks = flat_map (block c.args.verdicts.now.tailoring c.args.verdicts.now.history) c.args.verdicts.now.history.kept in
     let lines = lines_of c.args.counts.now in
-    let from = seen_as (g.K.Sink.taken c.args.sink.now) (g.K.Sink.faults c.args.sink.now) (g.K.Sink.room c.args.sink.now) in
-    let now = seen_as (g.K.Sink.taken c.write_blocks.new.sink) (g.K.Sink.faults c.write_blocks.new.sink) (g.K.Sink.room c.write_blocks.new.sink) in
+    let from = as_seen g.K.Sink c.args.sink.now in
+    let now = as_seen g.K.Sink c.write_blocks.new.sink in
     let others = c.write_blocks.new.out.items in
     let fault = c.in_err-write_blocks.field-0.0 in
     let p = err_from_is_err_and c.from_residual.result c.from_residual.ensures.1 in
@@ -25,8 +25,8 @@ pub returns-in_err-write_counts : goal.returns-in_err-write_counts
 returns-in_err-write_counts g c =
     let blocks = flat_map (block c.args.verdicts.now.tailoring c.args.verdicts.now.history) c.args.verdicts.now.history.kept in
     let lines = lines_of c.args.counts.now in
-    let from = seen_as (g.K.Sink.taken c.args.sink.now) (g.K.Sink.faults c.args.sink.now) (g.K.Sink.room c.args.sink.now) in
-    let mid = seen_as (g.K.Sink.taken c.write_blocks.new.sink) (g.K.Sink.faults c.write_blocks.new.sink) (g.K.Sink.room c.write_blocks.new.sink) in
+    let from = as_seen g.K.Sink c.args.sink.now in
+    let mid = as_seen g.K.Sink c.write_blocks.new.sink in
     let others = c.write_blocks.new.out.items in
     let p = err_from_is_err_and c.from_residual-in_err-write_counts.result c.from_residual-in_err-write_counts.ensures.1 in
     let Q : Result Unit WriteFault → Type 0 = λ result. HasEnded (blocks ++ lines) result from mid in
@@ -38,9 +38,9 @@ pub returns : goal.returns
 returns g c =
     let blocks = flat_map (block c.args.verdicts.now.tailoring c.args.verdicts.now.history) c.args.verdicts.now.history.kept in
     let lines = lines_of c.args.counts.now in
-    let from = seen_as (g.K.Sink.taken c.args.sink.now) (g.K.Sink.faults c.args.sink.now) (g.K.Sink.room c.args.sink.now) in
-    let mid = seen_as (g.K.Sink.taken c.write_blocks.new.sink) (g.K.Sink.faults c.write_blocks.new.sink) (g.K.Sink.room c.write_blocks.new.sink) in
-    let now = seen_as (g.K.Sink.taken c.write_gathered.new.sink) (g.K.Sink.faults c.write_gathered.new.sink) (g.K.Sink.room c.write_gathered.new.sink) in
+    let from = as_seen g.K.Sink c.args.sink.now in
+    let mid = as_seen g.K.Sink c.write_blocks.new.sink in
+    let now = as_seen g.K.Sink c.write_gathered.new.sink in
     let others = c.write_blocks.new.out.items in
     let result = c.write_gathered.result in
     let N : List ℕ → Type 0 = λ out. Proceeds (out ++ blocks) from (Ok tt) others mid in

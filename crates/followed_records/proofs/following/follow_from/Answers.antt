@@ -1,7 +1,7 @@
 use Rattle.std.proofs.Common.{Ok, Err}
 use Rattle.std.proofs.lemmas.Result.{err_from_is_err_and}
-use Rattle.followed_records.specs.Following.{HasRoomLeft, IsUnfailed}
-use Rattle.followed_records.proofs.FollowingLemmas.{from_ends, from_until, from_all, told_from}
+use Rattle.followed_records.specs.Following.{told_from, HasRoomLeft, IsUnfailed}
+use Rattle.followed_records.proofs.FollowingLemmas.{from_ends, from_until, from_all}
 use Rattle.followed_records.proofs.RoomLemmas.{from_fails, from_room, end_room, unfailed, with_map}
 use Rattle.followed_records.proofs.following.follow_from.Goals as goal
 

@@ -3,10 +3,10 @@ use Rattle.std.proofs.lemmas.Grind.{common_steps}
 use Rattle.std.specs.List.{All, HoldsAt}
 use Rattle.definition_intervals.specs.Founds.{AreSameFound}
 use Rattle.opening_sweeps.specs.Courses.{AreAlike}
-use Rattle.opening_sweeps.specs.Groups.{courses, courses_at, IsReached}
+use Rattle.opening_sweeps.specs.Groups.{courses, courses_at, joined, IsReached}
 use Rattle.opening_sweeps.specs.declared.group.Group.{Group}
 use Rattle.opening_sweeps.proofs.OutcomeLemmas.{on_ok}
-use Rattle.opening_sweeps.proofs.JoinLemmas.{joined, made, alike-none, alike-at, reached-at, alike-made, reached-made}
+use Rattle.opening_sweeps.proofs.JoinLemmas.{made, alike-none, alike-at, reached-at, alike-made, reached-made}
 use Rattle.opening_sweeps.proofs.opening_groups.add_openings.Goals as goal
 
 pub returns-then-is_empty-clause-alike : goal.returns-then-is_empty-clause-alike

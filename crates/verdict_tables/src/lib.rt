@@ -5,12 +5,15 @@ mod building;
 mod collecting;
 mod keys;
 mod laws;
+mod mending;
 mod places;
 mod ranges;
+mod renewing;
 mod start;
 mod steps;
 mod structures;
 mod tables;
+mod tailorings;
 
 pub use laws::openings_stay;
 pub use ranges::Ranges;

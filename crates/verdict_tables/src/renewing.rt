@@ -1,0 +1,66 @@
+//! Ranges of some structures, made anew.
+ghost use Rattle.std.specs.Prelude.{◌≡◌, ◌++◌, IfOk, OnOk, OnErr};
+ghost use Rattle.std.specs.Option.{option_copied};
+ghost use Rattle.ground_history.specs.Ground.{Ground};
+ghost use Rattle.verdict_tables.specs.Mending.{AreRangesAt, AreRenewed, firsts_of};
+
+use crate::building::ranges_at;
+use crate::ranges::Ranges;
+use crate::structures::Structures;
+use ground_history::History;
+use hk_base::{Items, Key, Memory};
+use std::alloc::Global;
+
+/// Makes the ranges of these structures anew, with some more places: of all of them, or, without memory, of none.
+pub(crate) fn renew(
+    alloc: Global,
+    history: &History,
+    keys: &[Key],
+    more: &[u64],
+    structures: &mut Structures,
+) -> Result<(), Memory>
+    ensures renewed { OnOk result (AreRenewed history.now keys.now more.now structures.old structures.new) }
+    ensures same { OnErr result (structures.new ≡ structures.old) }
+{
+    let [key, rest @ ..] = keys else {
+        return Ok(());
+    };
+    let ranges = ranges_with(alloc, history, *key, structures.get(*key), more)?;
+    if structures.get(*key).is_some() {
+        renew(alloc, history, rest, more, structures)?;
+        structures.replace(*key, ranges);
+        return Ok(());
+    }
+    structures.insert(*key, ranges)?;
+    let renewed = renew(alloc, history, rest, more, structures);
+    if renewed.is_err() {
+        structures.remove(*key);
+    }
+    renewed
+}
+
+/// The ranges of a structure that has some more places than it had.
+fn ranges_with(
+    alloc: Global,
+    history: &History,
+    key: Key,
+    held: Option<&Ranges>,
+    more: &[u64],
+) -> Result<Ranges, Memory>
+    ensures { IfOk result (AreRangesAt history.now key (firsts_of (option_copied held.entry) ++ more.now)) }
+{
+    let tags = tags_with(alloc, held, more)?;
+    ranges_at(alloc, history, key, tags)
+}
+
+/// The first tags of a structure's ranges, and some more.
+fn tags_with(alloc: Global, held: Option<&Ranges>, more: &[u64]) -> Result<Items<u64>, Memory>
+    ensures { IfOk result (λ tags. tags ≡ firsts_of (option_copied held.entry) ++ more.now) }
+{
+    let mut tags = Vec::new(alloc);
+    if let Some(ranges) = held {
+        tags.extend_from_slice(ranges.firsts())?;
+    }
+    tags.extend_from_slice(more)?;
+    Ok(Items::from_vec(tags))
+}

@@ -1,10 +1,10 @@
 -- The structures that a request names are those that it can change.
-use Rattle.std.proofs.Common.{◌≡◌, ℕ, refl, sym, ◌∙◌, ap, List, [], ◌∷◌, ◌++◌, Bool, true, false, ◌||◌, inl, inr, Option, Some, None}
+use Rattle.std.proofs.Common.{◌≡◌, ℕ, refl, List, [], ◌∷◌, ◌++◌, Bool, true, false, ◌||◌, inl, Option, Some, None}
 use Rattle.std.specs.Prelude.{is_some, if◌then◌else◌}
 use Rattle.std.proofs.lemmas.Bool.{both_ways}
 use Rattle.hk_base.specs.Parameters.{key_eq}
 use Rattle.hk_base.specs.declared.types.Key.{Key}
-use Rattle.hk_base.proofs.Membership.{IsIn, IsIn-left, IsIn-right, IsIn-append}
+use Rattle.hk_base.proofs.Membership.{IsIn}
 use Rattle.st03_grammar.specs.Instructions.{StructureChange}
 use Rattle.pus_messages.specs.Instructions.{instructions}
 use Rattle.pus_messages.specs.Changes.{change_by}

@@ -1,29 +1,28 @@
 -- What a new request changes of the structures that it names.
-use Rattle.std.proofs.Common.{arith, ◌≡◌, ℕ, zero, suc, ◌+◌, ◌-◌, ◌<◌, length-append, IfSome, refl, sym, ◌∙◌, ap, subst, List, [], ◌∷◌, ◌++◌, append-nil, max, Bool, true, false, length, inl, inr, ◌⊎◌, Option, Some, None, flat_map}
-use Rattle.std.specs.Prelude.{◌≢◌, slice_get, ◌==◌, option_and_then, is_some, if◌then◌else◌}
+use Rattle.std.proofs.Common.{arith, ◌≡◌, ℕ, zero, suc, ◌+◌, ◌-◌, ◌<◌, length-append, IfSome, refl, sym, ◌∙◌, ap, subst, List, [], ◌∷◌, ◌++◌, max, true, false, length, inl, inr, Option, Some, None}
+use Rattle.std.specs.Prelude.{slice_get, ◌==◌, option_and_then, is_some, if◌then◌else◌}
 use Rattle.std.specs.List.{enumerate_from}
 use Rattle.std.specs.Option.{option_map_or}
 use Rattle.hk_base.specs.declared.types.Key.{Key}
-use Rattle.hk_base.proofs.Membership.{IsIn, IsIn-left, IsIn-right, IsIn-append}
-use Rattle.st03_grammar.specs.Instructions.{StructureChange}
+use Rattle.hk_base.proofs.Membership.{IsIn}
 use Rattle.pus_messages.specs.Changes.{change_by}
 use Rattle.pus_messages.specs.Instructions.{instructions}
 use Rattle.pus_messages.specs.declared.message.Request.{Request}
 use Rattle.ground_history.specs.Histories.{Sent, History, greatest}
-use Rattle.ground_history.specs.Evidence.{low, high, comes_before, has_report, shows_refused, shows_executed}
+use Rattle.ground_history.specs.Evidence.{comes_before, has_report, shows_refused, shows_executed}
 use Rattle.ground_history.specs.Ground.{Ground, with_history}
 use Rattle.ground_history.specs.declared.answer.Outcome.TheVariants.{Done, Refused, Unknown}
 use Rattle.ground_history.proofs.KeptLemmas.{tags}
-use Rattle.verdict_tables.specs.Places.{can_change, bound_places, request_places, places, is_among}
-use Rattle.verdict_tables.specs.Mending.{keys_of_sent, is_named, IsAlike, HasMorePlaces, IsLocal}
+use Rattle.verdict_tables.specs.Places.{bound_places, places, is_among}
+use Rattle.verdict_tables.specs.Mending.{keys_of_sent, is_named, IsLocal}
 use Rattle.verdict_tables.proofs.ChangedLemmas.{named-change, unnamed-change}
-use Rattle.verdict_tables.proofs.SameLemmas.{with_request, IsSame, IsUnable, AreSameTo, sent-alike, sent-places}
+use Rattle.verdict_tables.proofs.SameLemmas.{with_request, IsSame, AreSameTo, sent-alike, sent-places}
 
-named-able : (key : Key) (request : Option Request) → is_named key (keys_of_sent request) ≡ true → is_some (option_and_then (change_by key) request) ≡ true
+pub named-able : (key : Key) (request : Option Request) → is_named key (keys_of_sent request) ≡ true → is_some (option_and_then (change_by key) request) ≡ true
 named-able key (Some r) e = named-change key r e
 named-able key None e = e
 
-unnamed-unable : (key : Key) (request : Option Request) → is_named key (keys_of_sent request) ≡ false → option_and_then (change_by key) request ≡ None
+pub unnamed-unable : (key : Key) (request : Option Request) → is_named key (keys_of_sent request) ≡ false → option_and_then (change_by key) request ≡ None
 unnamed-unable key (Some r) e = unnamed-change key r e
 unnamed-unable key None e = refl
 
@@ -63,7 +62,7 @@ bounds-some [] n ns e = let no : n ∷ ns ≡ [] → ⊥ = λ p. cc in no e
 bounds-some (x ∷ xs) n ns e = let no : x ∷ (xs ++ n ∷ ns) ≡ [] → ⊥ = λ p. cc in no e
 
 -- a request that was sent gives its bounds to the structures that it names
-pub sent-local : (g : Ground) (r : Sent) → IsLocal g (with_history g (with_request g.history r)) (keys_of_sent r.request) (bound_places (with_request g.history r) (length g.history.requests))
+pub sent-local : (g : Ground) (r : Sent) → IsLocal g (with_history g (with_request g.history r)) (keys_of_sent r.request) (Some (bound_places (with_request g.history r) (length g.history.requests)))
 sent-local g r =
     record {
       tailoring = refl;
@@ -95,11 +94,11 @@ sent-last (y ∷ xs) x = sent-last xs x
 
 pub sent-mended : (g later : Ground) (r : Sent) (count : ℕ) (request : Option Request) (keys : List Key) (more : List ℕ) → later ≡ with_history g (with_request g.history r)
     → count ≡ length later.history.requests → IfSome (slice_get later.history.requests (count - 1)) (λ sent. request ≡ sent.request) → keys ≡ keys_of_sent request
-    → more ≡ bound_places later.history (count - 1) → IsLocal g later keys more
+    → more ≡ bound_places later.history (count - 1) → IsLocal g later keys (Some more)
 sent-mended g later r count request keys more e sent asked named placed =
-    subst (λ (ks : List Key). IsLocal g later ks more) (sym (named ∙ ap (λ (o : Option Request). keys_of_sent o) is))
-    (subst (λ (l : List ℕ). IsLocal g later (keys_of_sent r.request) l) (sym (placed ∙ (ap (λ (x : Ground). bound_places x.history (count - 1)) e ∙ ap (λ k. bound_places (with_request g.history r) k) last)))
-    (subst (λ (x : Ground). IsLocal g x (keys_of_sent r.request) (bound_places (with_request g.history r) (length g.history.requests))) (sym e) (sent-local g r)))
+    subst (λ (ks : List Key). IsLocal g later ks (Some more)) (sym (named ∙ ap (λ (o : Option Request). keys_of_sent o) is))
+    (subst (λ (l : List ℕ). IsLocal g later (keys_of_sent r.request) (Some l)) (sym (placed ∙ (ap (λ (x : Ground). bound_places x.history (count - 1)) e ∙ ap (λ k. bound_places (with_request g.history r) k) last)))
+    (subst (λ (x : Ground). IsLocal g x (keys_of_sent r.request) (Some (bound_places (with_request g.history r) (length g.history.requests)))) (sym e) (sent-local g r)))
   where
     last : count - 1 ≡ length g.history.requests
     last =

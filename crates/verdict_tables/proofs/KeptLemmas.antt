@@ -16,7 +16,7 @@ use Rattle.pus_messages.specs.declared.message.ReportBody.{ReportBody}
 use Rattle.pus_messages.specs.declared.message.ReportBody.TheVariants as tell
 use Rattle.pus_messages.specs.Protocol.{Reception, foreign, skipped, unread, readable}
 use Rattle.ground_history.specs.declared.answer.GotKind.TheVariants as became
-use Rattle.ground_history.specs.Histories.{Sent, Kept, History, tag_of, greatest, insert_kept, kind_by_tag, kind_by_reception, kept_at, stray_id, number_of_body, history_with_got, history_with_report}
+use Rattle.ground_history.specs.Histories.{Kept, History, tag_of, greatest, insert_kept, kind_by_tag, kind_by_reception, kept_at, stray_id, number_of_body, history_with_got, history_with_report}
 use Rattle.ground_history.specs.Evidence.{verifies, passes, comes_before, comes_after, is_acceptance, is_start, is_completion, low, high, floor, has_report, is_alone, shows_accepted, shows_barred, shows_refused, shows_executed}
 use Rattle.ground_history.specs.Ground.{Ground, with_history}
 use Rattle.ground_history.specs.declared.answer.Outcome.TheVariants.{Done, Refused, Unknown}
@@ -24,7 +24,7 @@ use Rattle.ground_history.proofs.KeptLemmas.{tags, greatest-insert_kept}
 use Rattle.ground_history.proofs.SayLemmas.{lower, tag_if, least-step, least-insert_kept, any-insert_kept, or-false, nothing}
 use Rattle.definition_intervals.specs.Openings.{reported_structure}
 use Rattle.verdict_tables.specs.Places.{is_among, report_places, request_places, places}
-use Rattle.verdict_tables.specs.Mending.{with_packet, shows_requests, told_key, is_named, IsAlike, HasMorePlaces, IsLocal}
+use Rattle.verdict_tables.specs.Mending.{with_packet, shows_requests, told_key, IsLocal}
 use Rattle.verdict_tables.proofs.MemberLemmas.{among-same}
 use Rattle.verdict_tables.proofs.SameLemmas.{IsSame, AreSameTo, kept-alike, earlier-places}
 
@@ -76,6 +76,12 @@ told-none (tell.Hk (hk.Structure named s)) e key = absurd (let no : Some named �
 told-none (tell.Hk (hk.Values named payload)) e key = refl
 told-none (tell.Hk (hk.Periodic kind rows)) e key = refl
 
+pub shown-untold : (body : ReportBody) → shows_requests body ≡ true → (key : Key) → reported_structure key body ≡ None
+shown-untold (tell.Verify report) e key = refl
+shown-untold (tell.Stat report) e key = refl
+shown-untold (tell.Par report) e key = refl
+shown-untold (tell.Hk report) e key = absurd (both_ways false refl e)
+
 pub told-some : (body : ReportBody) (named : Key) → told_key body ≡ Some named → (s : Structure) × (body ≡ tell.Hk (hk.Structure named s))
 told-some (tell.Hk (hk.Structure key s)) named e = (s, ap (λ (k : Key). tell.Hk (hk.Structure k s)) (some_value key named e))
 told-some (tell.Hk (hk.Values key payload)) named e = absurd (let no : None ≡ Some named → ⊥ = λ p. cc in no e)
@@ -90,32 +96,51 @@ unpassed n test numbers e = ap (λ b. option_map_or numbers n.number false && b)
 none-of : (a b c : Bool) → a ≡ false → b ≡ false → c ≡ false → ((a || b) || c) ≡ false
 none-of a b c ea eb ec = rw (ea, eb, ec) refl
 
-low-same : (h : History) (n : Kept) (k : ℕ) → comes_before k n ≡ false → low (with_packet h n) k ≡ low h k
+pub low-same : (h : History) (n : Kept) (k : ℕ) → comes_before k n ≡ false → low (with_packet h n) k ≡ low h k
 low-same h n k e = ap (λ m. max (floor h k) m) (greatest-insert_kept (comes_before k) n h.kept ∙ unkept (comes_before k n) e)
   where
     unkept : (b : Bool) → b ≡ false → greatest (map tag_of (cond b (n ∷ filter (comes_before k) h.kept) (filter (comes_before k) h.kept))) ≡ greatest (tags (comes_before k) h.kept)
     unkept true e = absurd (both_ways true e refl)
     unkept false e = refl
 
-high-same : (h : History) (n : Kept) (k : ℕ) → comes_after k n ≡ false → high (with_packet h n) k ≡ high h k
+pub high-same : (h : History) (n : Kept) (k : ℕ) → comes_after k n ≡ false → high (with_packet h n) k ≡ high h k
 high-same h n k e = least-insert_kept (comes_after k) n h.kept ∙ (least-step (comes_after k) n h.kept ∙ ap (λ b. lower (tag_if b n) (high h k)) e)
 
 report-same : (test : Verification → Bool) (h : History) (n : Kept) (k : ℕ) → verifies test (λ j. j == k) n ≡ false → has_report test (with_packet h n) k ≡ has_report test h k
 report-same test h n k e = any-insert_kept (verifies test (λ j. j == k)) n h.kept ∙ or-false (verifies test (λ j. j == k) n) (has_report test h k) e
 
-silent-same : (h : History) (n : Kept) → IsSilent n.report.body → (k : ℕ) → IsSame h (with_packet h n) k
-silent-same h n is k =
+-- a packet that shows nothing of a request but maybe of its bounds
+pub record IsMute (n : Kept) (k : ℕ) : Type 0 where
+  pub accepted : verifies shows_accepted (λ j. j == k) n ≡ false
+  pub barred : verifies shows_barred (λ j. j == k) n ≡ false
+  pub refused : (number : ℕ) → verifies (shows_refused number) (λ j. j == k) n ≡ false
+  pub executed : (alone : Bool) (number : ℕ) → verifies (shows_executed alone number) (λ j. j == k) n ≡ false
+
+pub mute-same : (h : History) (n : Kept) (k : ℕ) → low (with_packet h n) k ≡ low h k → high (with_packet h n) k ≡ high h k → IsMute n k → IsSame h (with_packet h n) k
+mute-same h n k below above is =
     record {
-      low = low-same h n k (none-of _ _ _ (unpassed n is_acceptance (λ j. nat_le j k) is.acceptance) (unpassed n is_start (λ j. nat_le j k) is.start) (unpassed n is_completion (λ j. nat_lt j k) is.completion));
-      high = high-same h n k (let a = unpassed n is_completion (λ j. nat_le k j) is.completion in let b = unpassed n is_start (λ j. nat_lt k j) is.start in or-false _ _ a ∙ b);
-      accepted = report-same shows_accepted h n k (unpassed n shows_accepted (λ j. j == k) is.accepted);
-      barred = report-same shows_barred h n k (unpassed n shows_barred (λ j. j == k) is.barred);
+      low = below;
+      high = above;
+      accepted = report-same shows_accepted h n k is.accepted;
+      barred = report-same shows_barred h n k is.barred;
       outcome = λ number.
           ap (λ (b : Bool). if b then Refused else if has_report (shows_executed (is_alone h k) number) (with_packet h n) k then Done else Unknown)
-          (report-same (shows_refused number) h n k (unpassed n (shows_refused number) (λ j. j == k) (is.refused number)))
+          (report-same (shows_refused number) h n k (is.refused number))
           ∙ ap (λ (b : Bool). if has_report (shows_refused number) h k then Refused else if b then Done else Unknown)
-          (report-same (shows_executed (is_alone h k) number) h n k (unpassed n (shows_executed (is_alone h k) number) (λ j. j == k) (is.executed (is_alone h k) number)));
+          (report-same (shows_executed (is_alone h k) number) h n k (is.executed (is_alone h k) number));
     }
+
+silent-same : (h : History) (n : Kept) → IsSilent n.report.body → (k : ℕ) → IsSame h (with_packet h n) k
+silent-same h n is k =
+    mute-same h n k
+    (low-same h n k (none-of _ _ _ (unpassed n is_acceptance (λ j. nat_le j k) is.acceptance) (unpassed n is_start (λ j. nat_le j k) is.start) (unpassed n is_completion (λ j. nat_lt j k) is.completion)))
+    (high-same h n k (let a = unpassed n is_completion (λ j. nat_le k j) is.completion in let b = unpassed n is_start (λ j. nat_lt k j) is.start in or-false _ _ a ∙ b))
+    (record {
+      accepted = unpassed n shows_accepted (λ j. j == k) is.accepted;
+      barred = unpassed n shows_barred (λ j. j == k) is.barred;
+      refused = λ number. unpassed n (shows_refused number) (λ j. j == k) (is.refused number);
+      executed = λ alone number. unpassed n (shows_executed alone number) (λ j. j == k) (is.executed alone number);
+    })
 
 silent-sames : (h : History) (n : Kept) (key : Key) → IsSilent n.report.body → AreSameTo key h (with_packet h n)
 silent-sames h n key is k s i = inl (silent-same h n is k)
@@ -123,7 +148,7 @@ silent-sames h n key is k s i = inl (silent-same h n is k)
 -- ---- structures that it tells of
 
 -- a packet that tells nothing leaves each structure as it was
-pub silent-local : (g : Ground) (n : Kept) → IsSilent n.report.body → ((key : Key) → reported_structure key n.report.body ≡ None) → IsLocal g (with_history g (with_packet g.history n)) [] []
+pub silent-local : (g : Ground) (n : Kept) → IsSilent n.report.body → ((key : Key) → reported_structure key n.report.body ≡ None) → IsLocal g (with_history g (with_packet g.history n)) [] None
 silent-local g n is untold =
     record {
       tailoring = refl;
@@ -229,12 +254,12 @@ module _ (h : History) (n : Kept) (key : Key) (same : AreSameTo key h (with_pack
 structure-silent : (body : ReportBody) (named : Key) (s : Structure) → body ≡ tell.Hk (hk.Structure named s) → IsSilent body
 structure-silent body named s e = subst (λ b. IsSilent b) (sym e) (other-silent (tell.Hk (hk.Structure named s)) (λ test. refl))
 
-empty_place : (x : ℕ) (l : List ℕ) → IsIn x l → l ≡ [] → ⊥
+pub empty_place : (x : ℕ) (l : List ℕ) → IsIn x l → l ≡ [] → ⊥
 empty_place x l i e = subst (λ (m : List ℕ). IsIn x m) e i
 
 -- a report of a structure gives it a place above its tag
 pub structure-local : (g : Ground) (n : Kept) (named : Key) (s : Structure) → n.report.body ≡ tell.Hk (hk.Structure named s)
-    → IsLocal g (with_history g (with_packet g.history n)) (named ∷ []) ((tag_of n + 1) ∷ [])
+    → IsLocal g (with_history g (with_packet g.history n)) (named ∷ []) (Some ((tag_of n + 1) ∷ []))
 structure-local g n named s e =
     record {
       tailoring = refl;

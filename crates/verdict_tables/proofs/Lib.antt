@@ -16,3 +16,5 @@ pub mod EntryLemmas
 pub mod KeptLemmas
 pub mod RenewLemmas
 pub mod SameValues
+pub mod TouchLemmas
+pub mod PlaceLemmas

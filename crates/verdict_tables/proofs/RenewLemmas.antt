@@ -1,7 +1,7 @@
 -- Tables of which some ranges were made anew stand for what is known with one entry more.
-use Rattle.std.proofs.Common.{arith, ◌≡◌, ℕ, ◌-◌, ◌≤◌, length, take, drop, get_or, OnOk, refl, sym, ◌∙◌, ap, subst, List, [], ◌∷◌, ◌++◌, Bool, true, false, ◌||◌, ◌==◌, Option, Some, None, IfSome, inl, inr, ◌⊎◌}
-use Rattle.std.specs.Prelude.{◌≢◌, if◌then◌else◌, Result, Ok, Err}
-use Rattle.std.specs.List.{All, list_any}
+use Rattle.std.proofs.Common.{arith, ◌≡◌, ℕ, ◌-◌, ◌≤◌, length, take, drop, get_or, OnOk, refl, sym, ◌∙◌, ap, subst, List, [], ◌∷◌, ◌++◌, Bool, true, false, ◌||◌, ◌==◌, Option, Some, None, IfSome}
+use Rattle.std.specs.Prelude.{if◌then◌else◌, Result, Ok, Err}
+use Rattle.std.specs.List.{All}
 use Rattle.std.specs.Option.{option_map_or}
 use Rattle.std.proofs.lemmas.List.{take_all}
 use Rattle.std.proofs.lemmas.Bool.{both_ways, or_parts, eqb-true}
@@ -13,10 +13,10 @@ use Rattle.definition_intervals.specs.Openings.{Opening, openings}
 use Rattle.definition_intervals.specs.Bases.{IsFormedBasis, BasesDecide, verdict_on}
 use Rattle.definition_intervals.specs.Verdicts.{verdict, verdict_of}
 use Rattle.definition_intervals.specs.declared.answer.Verdict.{Verdict}
-use Rattle.verdict_tables.specs.Places.{is_among, places, AreFirsts}
-use Rattle.verdict_tables.specs.Tables.{TableParts, RangeParts, HasRanges, StandsFor, AreFormed, basis_in, start_basis}
+use Rattle.verdict_tables.specs.Places.{is_among, places}
+use Rattle.verdict_tables.specs.Tables.{TableParts, RangeParts, HasRanges, StandsFor, basis_in, start_basis}
 use Rattle.verdict_tables.specs.Collecting.{HasTable, IsTable, IsHeld, held_for}
-use Rattle.verdict_tables.specs.Mending.{is_named, firsts_of, IsAlike, HasMorePlaces, IsLocal, AreRangesAt, IsRenewed, AreRenewed}
+use Rattle.verdict_tables.specs.Mending.{is_named, firsts_of, tags_after, IsAlike, HasPlaces, IsLocal, AreRangesAt, IsRenewed, AreRenewed}
 use Rattle.verdict_tables.proofs.KeyOrder.{same-key}
 use Rattle.verdict_tables.proofs.TableLemmas.{basis-by}
 
@@ -37,9 +37,9 @@ twice false true more = refl
 twice false false true = refl
 twice false false false = refl
 
-again : (g : Ground) (key : Key) (more : List ℕ) (held : Option RangeParts) (first second : RangeParts)
+again-more : (g : Ground) (key : Key) (more : List ℕ) (held : Option RangeParts) (first second : RangeParts)
     → AreRangesAt g key (firsts_of held ++ more) first → AreRangesAt g key (first.firsts ++ more) second → AreRangesAt g key (firsts_of held ++ more) second
-again g key more held first second one two =
+again-more g key more held first second one two =
     record {
       rising = two.rising;
       members = λ tag.
@@ -50,13 +50,18 @@ again g key more held first second one two =
       formed = two.formed;
     }
 
-pub renewed-none : (g : Ground) (more : List ℕ) (old : List (Key × RangeParts)) → AreRenewed g [] more old old
+again : (g : Ground) (key : Key) (more : Option (List ℕ)) (held : Option RangeParts) (first second : RangeParts)
+    → AreRangesAt g key (tags_after g key more held) first → AreRangesAt g key (tags_after g key more (Some first)) second → AreRangesAt g key (tags_after g key more held) second
+again g key (Some more) held first second one two = again-more g key more held first second one two
+again g key None held first second one two = two
+
+pub renewed-none : (g : Ground) (more : Option (List ℕ)) (old : List (Key × RangeParts)) → AreRenewed g [] more old old
 renewed-none g more old = record { renewed = λ key e. absurd (both_ways false refl e); same = λ key e. refl }
 
 -- a structure first, and then the others
-module _ (g : Ground) (key : Key) (rest : List Key) (more : List ℕ) (ranges : RangeParts) where
+module _ (g : Ground) (key : Key) (rest : List Key) (more : Option (List ℕ)) (ranges : RangeParts) where
   abbrev Held : List (Key × RangeParts) → Type 0
-  Held old = AreRangesAt g key (firsts_of (held_for old key) ++ more) ranges
+  Held old = AreRangesAt g key (tags_after g key more (held_for old key)) ranges
 
   pub renewed-first : (old middle new : List (Key × RangeParts)) → Held old → IsHeld key (Some ranges) old middle → AreRenewed g rest more middle new → AreRenewed g (key ∷ rest) more old new
   renewed-first old middle new at put others =
@@ -71,12 +76,12 @@ module _ (g : Ground) (key : Key) (rest : List Key) (more : List ℕ) (ranges : 
       put-here : (q : Key) → key_eq key q ≡ true → held_for middle q ≡ Some ranges
       put-here q e = put q ∙ ap (λ b. if b then Some ranges else held_for old q) e
 
-      here : (q : Key) → key_eq key q ≡ true → AreRangesAt g q (firsts_of (held_for old q) ++ more) ranges
-      here q e = subst (λ k. AreRangesAt g k (firsts_of (held_for old k) ++ more) ranges) (same-key key q e) at
+      here : (q : Key) → key_eq key q ≡ true → AreRangesAt g q (tags_after g q more (held_for old q)) ranges
+      here q e = subst (λ k. AreRangesAt g k (tags_after g k more (held_for old k)) ranges) (same-key key q e) at
 
       both : (q : Key) → key_eq key q ≡ true → IsRenewed g q more (held_for middle q) (held_for new q) → IsRenewed g q more (held_for old q) (held_for new q)
       both q e r =
-          let two = subst (λ (o : Option RangeParts). AreRangesAt g q (firsts_of o ++ more) r.0) (put-here q e) r.2 in
+          let two = subst (λ (o : Option RangeParts). AreRangesAt g q (tags_after g q more o) r.0) (put-here q e) r.2 in
           (r.0, r.1, again g q more (held_for old q) ranges r.0 (here q e) two)
 
       named : (q : Key) (b : Bool) → key_eq key q ≡ b → (c : Bool) → is_named q rest ≡ c → is_named q (key ∷ rest) ≡ true → IsRenewed g q more (held_for old q) (held_for new q)
@@ -100,12 +105,12 @@ module _ (g : Ground) (key : Key) (rest : List Key) (more : List ℕ) (ranges : 
       put-here q e = put q ∙ ap (λ b. if b then Some ranges else held_for middle q) e
 
       named : (q : Key) (b : Bool) → key_eq key q ≡ b → (c : Bool) → is_named q rest ≡ c → is_named q (key ∷ rest) ≡ true → IsRenewed g q more (held_for old q) (held_for new q)
-      named q true p c r e = (ranges, put-here q p, subst (λ k. AreRangesAt g k (firsts_of (held_for old k) ++ more) ranges) (same-key key q p) at)
+      named q true p c r e = (ranges, put-here q p, subst (λ k. AreRangesAt g k (tags_after g k more (held_for old k)) ranges) (same-key key q p) at)
       named q false p true r e = subst (λ (o : Option RangeParts). IsRenewed g q more (held_for old q) o) (sym (put-other q p)) (others.renewed q r)
       named q false p false r e = absurd (both_ways (is_named q (key ∷ rest)) (ap (λ b. b || is_named q rest) p ∙ r) e)
 
 -- a structure that had ranges has some
-pub renewed-some : (g : Ground) (keys : List Key) (more : List ℕ) (old new : List (Key × RangeParts)) (key : Key) → AreRenewed g keys more old new → (held_for old key ≡ None → ⊥) → held_for new key ≡ None → ⊥
+pub renewed-some : (g : Ground) (keys : List Key) (more : Option (List ℕ)) (old new : List (Key × RangeParts)) (key : Key) → AreRenewed g keys more old new → (held_for old key ≡ None → ⊥) → held_for new key ≡ None → ⊥
 renewed-some g keys more old new key are some none = go (is_named key keys) refl
   where
     some_none : (r : RangeParts) → None ≡ Some r → ⊥
@@ -129,7 +134,7 @@ alike-ranges g later key (Some r) alike h =
     (λ e. h.0 (sym alike.places ∙ e), record { rising = h.1.rising; members = λ tag. h.1.members tag ∙ ap (λ (l : List ℕ). is_among tag (0 ∷ l)) (sym alike.places) })
 
 -- where no structure has changed
-pub same-stands : (tables : TableParts) (g later : Ground) (more : List ℕ) → IsLocal g later [] more → StandsFor tables g → StandsFor tables later
+pub same-stands : (tables : TableParts) (g later : Ground) (more : Option (List ℕ)) → IsLocal g later [] more → StandsFor tables g → StandsFor tables later
 same-stands tables g later more local stands =
     record {
       verdicts = λ key tag payload. stands.verdicts key tag payload ∙ same-verdict g later key tag payload local.tailoring (local.alike key refl);
@@ -149,12 +154,19 @@ regroup : (a b c : Bool) → (a || (b || c)) ≡ ((a || b) || c)
 regroup true b c = refl
 regroup false b c = refl
 
--- ranges with the places that a structure got more are its table
-renewed-table : (g later : Ground) (key : Key) (more : List ℕ) (found : Option RangeParts) (ranges : RangeParts) → HasRanges g.history key found → HasMorePlaces g later key more
-    → AreRangesAt later key (firsts_of found ++ more) ranges → IsTable later key ranges
-renewed-table g later key more found ranges has places-more at =
+-- ranges that begin at the places of a structure, or where they did and at the places that it got more, are its table
+renewed-table : (g later : Ground) (key : Key) (more : Option (List ℕ)) (found : Option RangeParts) (ranges : RangeParts) → HasRanges g.history key found → HasPlaces g later key more
+    → AreRangesAt later key (tags_after later key more found) ranges → IsTable later key ranges
+renewed-table g later key None found ranges has there at =
     record {
-      some = places-more.some;
+      some = there.some;
+      firsts = record { rising = at.rising; members = at.members };
+      bases = at.bases;
+      formed = at.formed;
+    }
+renewed-table g later key (Some more) found ranges has there at =
+    record {
+      some = there.some;
       firsts = record { rising = at.rising; members = λ tag. at.members tag ∙ same tag };
       bases = at.bases;
       formed = at.formed;
@@ -166,7 +178,7 @@ renewed-table g later key more found ranges has places-more at =
         ∙ (regroup (0 == tag) (is_among tag (firsts_of found)) (is_among tag more)
         ∙ (ap (λ b. b || is_among tag more) (had g key found has tag)
         ∙ (sym (regroup (0 == tag) (is_among tag (places g.history key)) (is_among tag more))
-        ∙ ap (λ b. (0 == tag) || b) (sym (places-more.members tag ∙ among-append tag (places g.history key) more)))))
+        ∙ ap (λ b. (0 == tag) || b) (sym (there.members tag ∙ among-append tag (places g.history key) more)))))
 
 -- the tables with these structures
 abbrev pub tables_of : Ground → List (Key × RangeParts) → TableParts
@@ -176,7 +188,7 @@ tables_of g structures = record { tailoring = Some g.tailoring; known = g.histor
 abbrev by_ranges : Ground → Key → ℕ → List ℕ → Option RangeParts → Verdict
 by_ranges g key tag payload found = verdict_on g.tailoring tag payload (option_map_or (λ ranges. basis_in ranges tag) found (start_basis g.tailoring g.history.known key))
 
-pub renewed-stands : BasesDecide → (g later : Ground) (keys : List Key) (more : List ℕ) (old new : List (Key × RangeParts)) → IsLocal g later keys more → AreRenewed later keys more old new
+pub renewed-stands : BasesDecide → (g later : Ground) (keys : List Key) (more : Option (List ℕ)) (old new : List (Key × RangeParts)) → IsLocal g later keys more → AreRenewed later keys more old new
     → StandsFor (tables_of later old) g → StandsFor (tables_of later new) later
 renewed-stands decide g later keys more old new local are stands =
     record { verdicts = λ key tag payload. verdicts key tag payload (is_named key keys) refl; ranges = λ key. ranges key (is_named key keys) refl }
@@ -200,7 +212,7 @@ renewed-stands decide g later keys more old new local are stands =
     ranges key false e = subst (λ (o : Option RangeParts). HasRanges later.history key o) (sym (are.same key e)) (alike-ranges g later key (held_for old key) (local.alike key e) (stands.ranges key))
 
 -- what is held stays formed
-pub renewed-formed : (g : Ground) (t : TailoringParts) (keys : List Key) (more : List ℕ) (old new : List (Key × RangeParts)) → g.tailoring ≡ t → AreRenewed g keys more old new
+pub renewed-formed : (g : Ground) (t : TailoringParts) (keys : List Key) (more : Option (List ℕ)) (old new : List (Key × RangeParts)) → g.tailoring ≡ t → AreRenewed g keys more old new
     → ((key : Key) → IfSome (held_for old key) (λ ranges. All (IsFormedBasis t) ranges.bases)) → (key : Key) → IfSome (held_for new key) (λ ranges. All (IsFormedBasis t) ranges.bases)
 renewed-formed g t keys more old new under are formed key = go (is_named key keys) refl
   where
@@ -221,11 +233,11 @@ pub if_ok : {X E : Type 0} {P Q : Type 0} (r : Result X E) → (P → Q) → OnO
 if_ok (Ok x) f p = f p
 if_ok (Err e) f p = p
 
-pub empty-stands : (tables : TableParts) (g later : Ground) (keys : List Key) (more : List ℕ) → (length keys == 0) ≡ true → IsLocal g later keys more → StandsFor tables g → StandsFor tables later
+pub empty-stands : (tables : TableParts) (g later : Ground) (keys : List Key) (more : Option (List ℕ)) → (length keys == 0) ≡ true → IsLocal g later keys more → StandsFor tables g → StandsFor tables later
 empty-stands tables g later [] more e local stands = same-stands tables g later more local stands
 empty-stands tables g later (k ∷ ks) more e local stands = let none = eqb-true (length (k ∷ ks)) 0 e in absurd (omega (arith, none))
 
-pub mended : {X E : Type 0} → BasesDecide → (later : Ground) (keys : List Key) (more : List ℕ) (r : Result X E) (under : Option TailoringParts) (known : Bool) (old new : List (Key × RangeParts)) (was : TableParts)
+pub mended : {X E : Type 0} → BasesDecide → (later : Ground) (keys : List Key) (more : Option (List ℕ)) (r : Result X E) (under : Option TailoringParts) (known : Bool) (old new : List (Key × RangeParts)) (was : TableParts)
     → record { tailoring = under; known = known; structures = old } ≡ was → was.tailoring ≡ Some later.tailoring → was.known ≡ later.history.known → OnOk r (AreRenewed later keys more old new)
     → (g : Ground) → IsLocal g later keys more → StandsFor was g → OnOk r (StandsFor (record { tailoring = under; known = known; structures = new }) later)
 mended decide later keys more r under known old new was e same start are g local stands = if_ok r made are

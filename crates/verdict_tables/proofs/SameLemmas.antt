@@ -5,7 +5,6 @@ use Rattle.std.specs.List.{cons_option, enumerate_from}
 use Rattle.std.specs.Option.{option_map_or}
 use Rattle.std.proofs.lemmas.List.Elements.{filter_map-append}
 use Rattle.std.proofs.lemmas.List.Concat.{flat_map-append}
-use Rattle.hk_base.specs.TailoringParts.{TailoringParts}
 use Rattle.hk_base.specs.Parameters.{boot_structure}
 use Rattle.hk_base.specs.declared.types.Key.{Key}
 use Rattle.hk_base.specs.declared.types.Structure.{Structure}
@@ -16,8 +15,8 @@ use Rattle.ground_history.specs.Histories.{Sent, Kept, History, tag_of, insert_k
 use Rattle.ground_history.specs.Evidence.{low, high, is_accepted, is_barred, outcome}
 use Rattle.ground_history.specs.Ground.{Ground, with_history}
 use Rattle.ground_history.specs.declared.answer.Outcome.{Outcome}
-use Rattle.definition_intervals.specs.Openings.{Candidate, Opening, is_at_most, candidate, candidates, from_creation, opening, openings, boot_openings, report_opening, reported_structure}
-use Rattle.verdict_tables.specs.Places.{can_change, reports, report_places, bound_places, request_places, places}
+use Rattle.definition_intervals.specs.Openings.{Candidate, Opening, is_at_most, candidate, candidates, from_creation, opening, boot_openings, report_opening, reported_structure}
+use Rattle.verdict_tables.specs.Places.{can_change, report_places, bound_places, request_places, places}
 use Rattle.verdict_tables.specs.Mending.{IsAlike, with_packet}
 use Rattle.verdict_tables.proofs.OpeningLemmas.{filter_map-same, unchanged, untold}
 

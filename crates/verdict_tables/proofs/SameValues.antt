@@ -1,5 +1,5 @@
 -- Lists of which each member is found to be the same.
-use Rattle.std.proofs.Common.{◌≡◌, ℕ, ◌+◌, sym, ◌∙◌, ap, List, [], ◌∷◌, ◌++◌, take, Bool, true, Some, ℤ, int_eq}
+use Rattle.std.proofs.Common.{◌≡◌, ℕ, ◌+◌, sym, ◌∙◌, ap, List, [], ◌∷◌, ◌++◌, take, true, Some, ℤ, int_eq}
 use lib.Pointwise.{pointwise}
 use Rattle.std.specs.Prelude.{slice_get}
 use Rattle.std.specs.Cmp.Rules.{signed_items}

@@ -1,5 +1,5 @@
 -- What one more entry changes of structures, and ranges that are made anew after it.
-use Rattle.std.specs.Prelude.{◌≡◌, ◌≢◌, ℕ, ◌⊎◌, List, [], ◌∷◌, ◌++◌, Bool, true, false, Option, Some, None}
+use Rattle.std.specs.Prelude.{◌≡◌, ◌≢◌, ℕ, List, [], ◌∷◌, ◌++◌, Bool, true, false, Option, Some, None, IfSome}
 use Rattle.std.specs.Option.{option_map_or}
 use Rattle.std.specs.List.{All, list_any}
 use Rattle.std.specs.List.Sorted.{IsStrictlyIncreasing}
@@ -51,17 +51,17 @@ pub record IsAlike (g later : Ground) (key : Key) : Type 0 where
   pub openings : (tag : ℕ) → openings later.tailoring later.history key tag ≡ openings g.tailoring g.history key tag
   pub places : places later.history key ≡ places g.history key
 
--- a structure has some places after an entry: those that it had, and some more
-pub record HasMorePlaces (g later : Ground) (key : Key) (more : List ℕ) : Type 0 where
-  pub members : (tag : ℕ) → is_among tag (places later.history key) ≡ is_among tag (places g.history key ++ more)
+-- A structure has some places after an entry. Where there are some more places, they are these and those that it had.
+pub record HasPlaces (g later : Ground) (key : Key) (more : Option (List ℕ)) : Type 0 where
+  pub members : IfSome more (λ new. (tag : ℕ) → is_among tag (places later.history key) ≡ is_among tag (places g.history key ++ new))
   pub some : places later.history key ≢ []
 
--- an entry gives some structures some more places, and leaves each other one as it was
-pub record IsLocal (g later : Ground) (keys : List Key) (more : List ℕ) : Type 0 where
+-- an entry may change the places of some structures, by some more where there are such, and leaves each other structure as it was
+pub record IsLocal (g later : Ground) (keys : List Key) (more : Option (List ℕ)) : Type 0 where
   pub tailoring : later.tailoring ≡ g.tailoring
   pub known : later.history.known ≡ g.history.known
   pub alike : (key : Key) → is_named key keys ≡ false → IsAlike g later key
-  pub places : (key : Key) → is_named key keys ≡ true → HasMorePlaces g later key more
+  pub places : (key : Key) → is_named key keys ≡ true → HasPlaces g later key more
 
 -- the first tags of the ranges of a structure, if it has any
 abbrev pub firsts_of : Option RangeParts → List ℕ
@@ -74,11 +74,15 @@ pub record AreRangesAt (g : Ground) (key : Key) (tags : List ℕ) (ranges : Rang
   pub bases : AreBases g.tailoring g.history key ranges.firsts ranges.bases
   pub formed : All (IsFormedBasis g.tailoring) ranges.bases
 
--- a structure has ranges that begin where it had some begin, and at some more tags
-abbrev pub IsRenewed : Ground → Key → List ℕ → Option RangeParts → Option RangeParts → Type 0
-IsRenewed g key more old new = (ranges : RangeParts) × (new ≡ Some ranges) × AreRangesAt g key (firsts_of old ++ more) ranges
+-- where the ranges of a structure are to begin: where they did and at some more tags, or at all of its places
+abbrev pub tags_after : Ground → Key → Option (List ℕ) → Option RangeParts → List ℕ
+tags_after g key more old = option_map_or (λ new. firsts_of old ++ new) more (places g.history key)
+
+-- a structure has ranges that begin there
+abbrev pub IsRenewed : Ground → Key → Option (List ℕ) → Option RangeParts → Option RangeParts → Type 0
+IsRenewed g key more old new = (ranges : RangeParts) × (new ≡ Some ranges) × AreRangesAt g key (tags_after g key more old) ranges
 
 -- some structures have new ranges, and each other one has what it had
-pub record AreRenewed (g : Ground) (keys : List Key) (more : List ℕ) (old new : List (Key × RangeParts)) : Type 0 where
+pub record AreRenewed (g : Ground) (keys : List Key) (more : Option (List ℕ)) (old new : List (Key × RangeParts)) : Type 0 where
   pub renewed : (key : Key) → is_named key keys ≡ true → IsRenewed g key more (held_for old key) (held_for new key)
   pub same : (key : Key) → is_named key keys ≡ false → held_for new key ≡ held_for old key

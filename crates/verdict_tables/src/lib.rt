@@ -7,6 +7,7 @@ mod keys;
 mod laws;
 mod mending;
 mod places;
+mod placing;
 mod ranges;
 mod renewing;
 mod start;
@@ -14,6 +15,7 @@ mod steps;
 mod structures;
 mod tables;
 mod tailorings;
+mod touching;
 
 pub use laws::openings_stay;
 pub use ranges::Ranges;

@@ -8,17 +8,18 @@ ghost use Rattle.ground_history.specs.declared.answer.GotKind.TheVariants as bec
 ghost use Rattle.verdict_tables.specs.Places.{bound_places};
 ghost use Rattle.verdict_tables.specs.Tables.{StandsFor};
 ghost use Rattle.verdict_tables.specs.Mending as mending;
-ghost use Rattle.verdict_tables.specs.Mending.{IsLocal, keys_of_sent, shows_requests, with_packet};
+ghost use Rattle.verdict_tables.specs.Mending.{IsLocal, shows_requests, with_packet};
 
 use crate::collecting::tag_after;
-use crate::keys::changed_keys;
+use crate::placing::add_bounds;
 use crate::renewing::renew;
 use crate::tables::Tables;
 use crate::tailorings::is_same_tailoring;
+use crate::touching::{sent_keys, touched_keys};
 use definition_intervals::bases_decide;
 use ground_history::{History, KeptPacket};
 use hk_base::{Key, Memory};
-use pus_messages::{ReportBody, Request};
+use pus_messages::ReportBody;
 use st01_reports::Verification;
 use st03_grammar::Report03;
 use std::alloc::Global;
@@ -37,11 +38,12 @@ impl Tables {
         }
         let keys = sent_keys(self.alloc, history.request(count - 1))?;
         let places = bounds(self.alloc, history, count - 1)?;
-        self.renew(history, &keys, &places)
+        self.renew(history, &keys, Some(&places))
     }
 
-    /// Mends tables after the packet with this tag was kept: a report of a structure changes the ranges of this one alone, and
-    /// one of values changes nothing. Without memory for it the tables are as before.
+    /// Mends tables after the packet with this tag was kept: a report of a structure changes the ranges of this one alone, a
+    /// verification report those of the structures of requests of which it may have shown something new, and one of values
+    /// nothing. Without memory for it the tables are as before.
     pub fn mend_kept(&mut self, history: &History, tag: u64) -> Result<(), Memory>
         ensures stands { (g : Ground) (packet : List ℕ) → IsGrounded g → got_kind (protocol g.tailoring) g.history packet ≡ became.Kept tag
             → history.now ≡ with_history g (history_with_got g.history packet ((protocol g.tailoring).reception packet)) → StandsFor self.old g
@@ -60,21 +62,22 @@ impl Tables {
     {
         let body = &kept.report().body;
         if shows_requests(body) {
-            return self.mend(history);
+            let keys = touched_keys(self.alloc, history, kept)?;
+            return self.renew(history, &keys, None);
         }
         match told_key(body) {
             Some(key) => {
                 let place = tag_after(kept.tag())?;
-                self.renew(history, &[key], &[place])
+                self.renew(history, &[key], Some(&[place]))
             }
             None => Ok(()),
         }
     }
 
-    /// Makes the ranges of some structures anew, which got some more places, or all ranges where the tables are of another
-    /// tailoring or start.
-    fn renew(&mut self, history: &History, keys: &[Key], more: &[u64]) -> Result<(), Memory>
-        ensures stands { (g : Ground) → IsLocal g history.now keys.now more.now → StandsFor self.old g → OnOk result (StandsFor self.new history.now) }
+    /// Makes the ranges of some structures anew, or all ranges where the tables are of another tailoring or start. The structures
+    /// got some more places, or where these aren't given all are found.
+    fn renew(&mut self, history: &History, keys: &[Key], more: Option<&[u64]>) -> Result<(), Memory>
+        ensures stands { (g : Ground) → IsLocal g history.now keys.now (option_copied more.entry) → StandsFor self.old g → OnOk result (StandsFor self.new history.now) }
         ensures same { OnErr result (self.new ≡ self.old) }
     {
         if keys.is_empty() {
@@ -101,26 +104,13 @@ impl Tables {
     }
 }
 
-/// The structures that a request can change, if it is known what it asks.
-fn sent_keys(alloc: Global, request: Option<&Request>) -> Result<Vec<Key>, Memory>
-    ensures { IfOk result (λ keys. keys.items ≡ keys_of_sent (option_copied request.entry)) }
-{
-    match request {
-        Some(request) => changed_keys(alloc, request),
-        None => Ok(Vec::new(alloc)),
-    }
-}
-
 /// The bounds of a request, as places.
 fn bounds(alloc: Global, history: &History, number: u64) -> Result<Vec<u64>, Memory>
     requires { number < length history.now.history.requests }
     ensures { IfOk result (λ places. places.items ≡ bound_places history.now.history number) }
 {
     let mut places = Vec::new(alloc);
-    places.push(tag_after(history.low(number))?)?;
-    if let Some(high) = history.high(number) {
-        places.push(high)?;
-    }
+    add_bounds(history, number, &mut places)?;
     Ok(places)
 }
 

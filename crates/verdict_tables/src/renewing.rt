@@ -1,31 +1,33 @@
 //! Ranges of some structures, made anew.
 ghost use Rattle.std.specs.Prelude.{◌≡◌, ◌++◌, IfOk, OnOk, OnErr};
 ghost use Rattle.std.specs.Option.{option_copied};
-ghost use Rattle.ground_history.specs.Ground.{Ground};
-ghost use Rattle.verdict_tables.specs.Mending.{AreRangesAt, AreRenewed, firsts_of};
+ghost use Rattle.verdict_tables.specs.Mending.{AreRangesAt, AreRenewed, firsts_of, tags_after};
 
 use crate::building::ranges_at;
+use crate::placing::places_of;
 use crate::ranges::Ranges;
 use crate::structures::Structures;
 use ground_history::History;
 use hk_base::{Items, Key, Memory};
 use std::alloc::Global;
 
-/// Makes the ranges of these structures anew, with some more places: of all of them, or, without memory, of none.
+/// Makes the ranges of these structures anew: of all of them, or, without memory, of none. They have some more places, or
+/// where these aren't given all places are found.
 pub(crate) fn renew(
     alloc: Global,
     history: &History,
     keys: &[Key],
-    more: &[u64],
+    more: Option<&[u64]>,
     structures: &mut Structures,
 ) -> Result<(), Memory>
-    ensures renewed { OnOk result (AreRenewed history.now keys.now more.now structures.old structures.new) }
+    ensures renewed { OnOk result (AreRenewed history.now keys.now (option_copied more.entry) structures.old structures.new) }
     ensures same { OnErr result (structures.new ≡ structures.old) }
 {
     let [key, rest @ ..] = keys else {
         return Ok(());
     };
-    let ranges = ranges_with(alloc, history, *key, structures.get(*key), more)?;
+    let tags = tags_for(alloc, history, *key, structures.get(*key), more)?;
+    let ranges = ranges_at(alloc, history, *key, tags)?;
     if structures.get(*key).is_some() {
         renew(alloc, history, rest, more, structures)?;
         structures.replace(*key, ranges);
@@ -39,18 +41,20 @@ pub(crate) fn renew(
     renewed
 }
 
-/// The ranges of a structure that has some more places than it had.
-fn ranges_with(
+/// Where the ranges of a structure are to begin.
+fn tags_for(
     alloc: Global,
     history: &History,
     key: Key,
     held: Option<&Ranges>,
-    more: &[u64],
-) -> Result<Ranges, Memory>
-    ensures { IfOk result (AreRangesAt history.now key (firsts_of (option_copied held.entry) ++ more.now)) }
+    more: Option<&[u64]>,
+) -> Result<Items<u64>, Memory>
+    ensures { IfOk result (λ tags. tags ≡ tags_after history.now key (option_copied more.entry) (option_copied held.entry)) }
 {
-    let tags = tags_with(alloc, held, more)?;
-    ranges_at(alloc, history, key, tags)
+    match more {
+        Some(more) => tags_with(alloc, held, more),
+        None => places_of(alloc, history, key),
+    }
 }
 
 /// The first tags of a structure's ranges, and some more.

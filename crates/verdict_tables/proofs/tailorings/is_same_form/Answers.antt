@@ -1,6 +1,5 @@
-use Rattle.std.proofs.Common.{◌≡◌, ◌∙◌, sym, ap, List, ℤ}
+use Rattle.std.proofs.Common.{◌∙◌, sym, ap, List, ℤ}
 use Rattle.hk_base.specs.declared.types.Form.{Form}
-use Rattle.hk_base.specs.declared.types.Form.TheVariants.{Enumerated}
 use Rattle.verdict_tables.proofs.SameValues.{same-values}
 use Rattle.verdict_tables.proofs.tailorings.is_same_form.Goals as goal
 

@@ -1,7 +1,7 @@
 use Rattle.std.proofs.Common.{rules, Some, None, List, subst, sym, ◌≡◌, ◌∙◌}
 use Rattle.hk_base.specs.declared.types.Key.{Key}
 use Rattle.verdict_tables.specs.Tables.{RangeParts}
-use Rattle.verdict_tables.specs.Collecting.{IsHeld, held_for, without}
+use Rattle.verdict_tables.specs.Collecting.{IsHeld, held_for}
 use Rattle.verdict_tables.proofs.KeyOrder.{held-updates, held-back}
 use Rattle.verdict_tables.proofs.structures.Structures.insert.Goals as goal
 

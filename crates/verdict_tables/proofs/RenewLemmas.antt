@@ -224,6 +224,12 @@ renewed-formed g t keys more old new under are formed key = go (is_named key key
 
 -- ---- as the code asks for them
 
+-- ranges that begin where a structure's are to begin
+pub begun-at : (g : Ground) (key : Key) (more : Option (List ℕ)) (found got : Option RangeParts) (tags : List ℕ) (ranges : RangeParts) → got ≡ found → tags ≡ tags_after g key more got
+    → AreRangesAt g key tags ranges → AreRangesAt g key (tags_after g key more found) ranges
+begun-at g key more found got tags ranges same is at =
+    subst (λ (ts : List ℕ). AreRangesAt g key ts ranges) (is ∙ ap (λ (o : Option RangeParts). tags_after g key more o) same) at
+
 -- a list with a first member
 pub headed : (keys : List Key) (first : Key) → 1 ≤ length keys → get_or keys 0 first ∷ take (length keys - 1) (drop 1 keys) ≡ keys
 headed [] first l = absurd (omega (arith, l))

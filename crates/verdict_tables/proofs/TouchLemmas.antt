@@ -3,6 +3,7 @@ use Rattle.std.proofs.Common.{arith, ◌≡◌, ℕ, ◌+◌, refl, sym, ◌∙�
 use Rattle.std.specs.Prelude.{◌≢◌, filter, if◌then◌else◌}
 use Rattle.std.specs.List.{enumerate_from}
 use Rattle.std.proofs.lemmas.Bool.{both_ways, or_parts, or_cases, eqb-false, eq-eqb}
+use Rattle.hk_base.specs.Parameters.{key_eq}
 use Rattle.hk_base.specs.declared.types.Key.{Key}
 use Rattle.hk_base.proofs.Membership.{IsIn}
 use Rattle.ground_history.specs.Histories.{Kept, History, tag_of, greatest}
@@ -13,7 +14,8 @@ use Rattle.ground_history.proofs.SayLemmas.{lower, tag_if, least-step, least-ins
 use Rattle.definition_intervals.specs.Openings.{reported_structure}
 use Rattle.verdict_tables.specs.Places.{places}
 use Rattle.verdict_tables.specs.Mending.{with_packet, keys_of_sent, is_named, IsLocal}
-use Rattle.verdict_tables.specs.Touching.{is_tag, is_touched, touched_keys_of, keys_touched}
+use Rattle.verdict_tables.specs.Touching.{AreSameKeys, is_tag, is_touched, touched_keys_of, keys_touched}
+use Rattle.verdict_tables.proofs.KeyOrder.{same-key}
 use Rattle.verdict_tables.proofs.OpeningLemmas.{bounds-there}
 use Rattle.verdict_tables.proofs.SameLemmas.{IsSame, IsSameTo, AreSameTo, kept-alike}
 use Rattle.verdict_tables.proofs.EntryLemmas.{named-able, unnamed-unable}
@@ -68,7 +70,7 @@ untouched-same h n k e =
 
 -- ---- the structures of requests that are touched
 
-named-append : (key : Key) (xs ys : List Key) → is_named key (xs ++ ys) ≡ (is_named key xs || is_named key ys)
+pub named-append : (key : Key) (xs ys : List Key) → is_named key (xs ++ ys) ≡ (is_named key xs || is_named key ys)
 named-append key [] ys = refl
 named-append key (x ∷ xs) ys = go _ (named-append key xs ys)
   where
@@ -116,15 +118,37 @@ touched-some later n key e =
     some true keys q = q
     some false keys q = absurd (both_ways false refl q)
 
+-- lists that name the same structures, with one member more, or some
+pub listed-already : (keys : List Key) (key : Key) → is_named key keys ≡ true → AreSameKeys keys (keys ++ key ∷ [])
+listed-already keys key e q = sym (named-append q keys (key ∷ []) ∙ go (key_eq key q) refl)
+  where
+    named : (a : Bool) → a ≡ true → (a || true) ≡ a
+    named true p = refl
+    named false p = absurd (both_ways false refl p)
+
+    unnamed : (a : Bool) → (a || false) ≡ a
+    unnamed true = refl
+    unnamed false = refl
+
+    go : (b : Bool) → key_eq key q ≡ b → (is_named q keys || (key_eq key q || false)) ≡ is_named q keys
+    go true p = ap (λ b. is_named q keys || (b || false)) p ∙ named (is_named q keys) (ap (λ k. is_named k keys) (sym (same-key key q p)) ∙ e)
+    go false p = ap (λ b. is_named q keys || (b || false)) p ∙ unnamed (is_named q keys)
+
+pub same-then : (front old more new : List Key) → AreSameKeys front old → AreSameKeys new (front ++ more) → AreSameKeys new (old ++ more)
+same-then front old more new before e q =
+    e q ∙ (named-append q front more ∙ (ap (λ b. b || is_named q more) (before q) ∙ sym (named-append q old more)))
+
 -- a verification report leaves the structures of requests that it doesn't touch as they were
-pub verified-local : (g later : Ground) (n : Kept) (keys : List Key) → later ≡ with_history g (with_packet g.history n) → keys ≡ keys_touched later.history n
+pub verified-local : (g later : Ground) (n : Kept) (keys : List Key) → later ≡ with_history g (with_packet g.history n) → AreSameKeys keys (keys_touched later.history n)
     → ((key : Key) → reported_structure key n.report.body ≡ None) → IsLocal g later keys None
-verified-local g later n keys e named untold =
-    subst (λ (ks : List Key). IsLocal g later ks None) (sym (named ∙ ap (λ (x : Ground). keys_touched x.history n) e))
-    (subst (λ (x : Ground). IsLocal g x (keys_touched (with_packet g.history n) n) None) (sym e)
+verified-local g later n keys e same untold =
+    subst (λ (x : Ground). IsLocal g x keys None) (sym e)
     (record {
       tailoring = refl;
       known = refl;
-      alike = λ key p. kept-alike g n key (touched-same g.history n key p) (untold key);
-      places = λ key p. record { members = tt; some = touched-some (with_packet g.history n) n key p };
-    }))
+      alike = λ key p. kept-alike g n key (touched-same g.history n key (sym (named key) ∙ p)) (untold key);
+      places = λ key p. record { members = tt; some = touched-some (with_packet g.history n) n key (sym (named key) ∙ p) };
+    })
+  where
+    named : AreSameKeys keys (keys_touched (with_packet g.history n) n)
+    named key = same key ∙ ap (λ (x : Ground). is_named key (keys_touched x.history n)) e

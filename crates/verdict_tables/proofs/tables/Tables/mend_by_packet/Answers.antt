@@ -1,8 +1,9 @@
-use Rattle.std.proofs.Common.{◌≡◌, ◌∙◌, ◌+◌, ◌∷◌, [], ℕ, sym, ap, subst, true, false, Some, None}
+use Rattle.std.proofs.Common.{◌≡◌, ◌∙◌, ◌+◌, ◌∷◌, [], ℕ, List, sym, ap, subst, true, false, Some, None}
+use Rattle.hk_base.specs.declared.types.Key.{Key}
 use Rattle.pus_messages.specs.declared.message.Report.{Report}
 use Rattle.ground_history.specs.Histories.{tag_of}
 use Rattle.ground_history.specs.Ground.{Ground, with_history}
-use Rattle.verdict_tables.specs.Mending.{IsLocal, with_packet, shows_requests, told_key}
+use Rattle.verdict_tables.specs.Mending.{IsLocal, is_named, with_packet, shows_requests, told_key}
 use Rattle.verdict_tables.proofs.KeptLemmas.{still-silent, told-none, told-some, shown-untold, silent-local, structure-local}
 use Rattle.verdict_tables.proofs.RenewLemmas.{same-stands}
 use Rattle.verdict_tables.proofs.TouchLemmas.{verified-local}
@@ -34,4 +35,5 @@ returns-then-shows_requests-clause-stands c =
     let n = c.args.kept.now in
     let shown : shows_requests n.report.body ≡ true = ap (λ (r : Report). shows_requests r.body) (sym c.report.ensures) ∙ (sym c.shows_requests.ensures ∙ c.if-shows_requests.true) in
     c.renew.ensures.stands g
-    (verified-local g c.args.history.now n c.deref.result.now e (c.deref.ensures.value ∙ c.in_ok-keys.ensures) (shown-untold n.report.body shown)) stands
+    (verified-local g c.args.history.now n c.deref.result.now e
+    (λ key. ap (λ (keys : List Key). is_named key keys) c.deref.ensures.value ∙ c.in_ok-keys.ensures key) (shown-untold n.report.body shown)) stands

@@ -51,12 +51,12 @@ pub record IsAlike (g later : Ground) (key : Key) : Type 0 where
   pub openings : (tag : ℕ) → openings later.tailoring later.history key tag ≡ openings g.tailoring g.history key tag
   pub places : places later.history key ≡ places g.history key
 
--- A structure has some places after an entry. Where there are some more places, they are these and those that it had.
+-- a structure has places after an entry; where it is told which ones it got, they are those that it had and these
 pub record HasPlaces (g later : Ground) (key : Key) (more : Option (List ℕ)) : Type 0 where
   pub members : IfSome more (λ new. (tag : ℕ) → is_among tag (places later.history key) ≡ is_among tag (places g.history key ++ new))
   pub some : places later.history key ≢ []
 
--- an entry may change the places of some structures, by some more where there are such, and leaves each other structure as it was
+-- an entry may give other places to some structures, of which it may be told which they got, and leaves each other structure as it was
 pub record IsLocal (g later : Ground) (keys : List Key) (more : Option (List ℕ)) : Type 0 where
   pub tailoring : later.tailoring ≡ g.tailoring
   pub known : later.history.known ≡ g.history.known

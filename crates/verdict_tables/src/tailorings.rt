@@ -68,13 +68,15 @@ trait Compared {
 fn are_same<T: Compared>(a: &[T], b: &[T]) -> bool
     ensures { result ≡ true → a.now ≡ b.now }
 {
-    match (a, b) {
-        ([], []) => true,
-        ([first, rest @ ..], [other, others @ ..]) => {
-            first.is_same(other) && are_same(rest, others)
-        }
-        _ => false,
+    if a.len() != b.len() {
+        return false;
     }
+    for index in 0..a.len() {
+        if !a[index].is_same(&b[index]) {
+            return false;
+        }
+    }
+    true
 }
 
 impl Compared for Boot {

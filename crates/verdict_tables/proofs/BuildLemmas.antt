@@ -1,10 +1,11 @@
 -- The ranges of all structures, one structure after the other.
-use Rattle.std.proofs.Common.{arith, ◌≡◌, ℕ, suc, ◌^◌, ◌<◌, refl, sym, ◌∙◌, ap, subst, List, [], ◌∷◌, inl, inr, Option, Some, None, length}
-use Rattle.std.specs.Prelude.{◌≢◌, slice_get, unwrap_or}
+use Rattle.std.proofs.Common.{arith, ◌≡◌, ℕ, suc, ◌^◌, ◌<◌, refl, sym, ◌∙◌, ap, subst, List, [], ◌∷◌, inl, inr, Option, Some, None, length, IfOk}
+use Rattle.std.specs.Prelude.{◌≢◌, slice_get, unwrap_or, Result, Ok, Err}
 use Rattle.std.specs.List.{All}
 use Rattle.std.specs.List.Sorted.{IsStrictlyIncreasing}
 use Rattle.hk_base.specs.TailoringParts.{TailoringParts}
 use Rattle.hk_base.specs.declared.types.Key.{Key}
+use Rattle.hk_base.specs.declared.types.Memory.{Memory}
 use Rattle.hk_base.proofs.Membership.{IsIn, AllByRecursion-IsIn}
 use Rattle.ground_history.specs.Histories.{History}
 use Rattle.ground_history.specs.Ground.{Ground}
@@ -13,6 +14,7 @@ use Rattle.definition_intervals.specs.declared.answer.Basis.{Basis}
 use Rattle.verdict_tables.specs.Places.{is_among, places}
 use Rattle.verdict_tables.specs.Collecting.{HasTable, IsTable, collected_places}
 use Rattle.verdict_tables.specs.Tables.{RangeParts, IsRanges}
+use Rattle.verdict_tables.specs.Mending.{AreRangesAt}
 use Rattle.verdict_tables.proofs.MemberLemmas.{among-IsIn, among-same}
 use Rattle.verdict_tables.proofs.NamedLemmas.{collected-IsIn, places-IsIn}
 use Rattle.verdict_tables.proofs.RisingLemmas.{Rises, rises}
@@ -76,3 +78,9 @@ table-made g key tags firsts bases is some rising members are formed =
     with-zero : (n : ℕ) (xs ys : List ℕ) → (IsIn n xs → IsIn n ys) → IsIn n (0 ∷ xs) → IsIn n (0 ∷ ys)
     with-zero n xs ys h (inl e) = inl e
     with-zero n xs ys h (inr i) = inr (h i)
+
+-- ranges that begin at what was collected for a structure are its table
+pub tables-made : (g : Ground) (key : Key) (tags : List ℕ) (made : Result RangeParts Memory) → tags ≡ collected_places g.history key → tags ≢ [] → IfOk made (AreRangesAt g key tags)
+    → IfOk made (IsTable g key)
+tables-made g key tags (Ok ranges) is some at = table-made g key tags ranges.firsts ranges.bases is some at.rising at.members at.bases at.formed
+tables-made g key tags (Err m) is some at = at

@@ -1,15 +1,17 @@
 -- What is held for a structure, by the order of keys.
-use Rattle.std.proofs.Common.{◌≡◌, ℕ, refl, sym, ◌∙◌, ap, subst, List, [], ◌∷◌, ◌++◌, append-nil, Bool, true, false, ◌&&◌, ◌==◌, Option, Some, None, IfSome, IfNone}
+use Rattle.std.proofs.Common.{◌≡◌, ℕ, refl, sym, ◌∙◌, ap, subst, List, [], ◌∷◌, ◌++◌, append-nil, Bool, true, false, ◌&&◌, ◌==◌, Option, Some, None, IfSome, IfNone, cond}
 use Rattle.std.specs.Prelude.{unwrap_or, if◌then◌else◌}
 use Rattle.std.proofs.lemmas.Bool.{both_ways, and_parts, eqb-true, eq-eqb}
-use Rattle.std.specs.Map.{lookup}
-use Rattle.std.specs.BTreeMap.{is_at}
+use Rattle.std.specs.Map.{lookup, remove_entry}
+use Rattle.std.specs.BTreeMap.{is_at, insert_entry}
+use Rattle.std.specs.Ordering.{is_eq, match_ordering}
 use Rattle.std.specs.declared.cmp.Ordering.{Ordering}
+use Rattle.std.specs.declared.cmp.Ordering.TheVariants.{Less, Equal, Greater}
 use Rattle.hk_base.specs.Parameters.{kind_eq, key_eq}
 use Rattle.hk_base.specs.declared.types.Kind.{Kind}
 use Rattle.hk_base.specs.declared.types.Kind.TheVariants.{Housekeeping, Diagnostic}
 use Rattle.hk_base.specs.declared.types.Key.{Key}
-use Rattle.verdict_tables.specs.Collecting.{held_for, IsHeld, tags_of, tags_if, Collects}
+use Rattle.verdict_tables.specs.Collecting.{held_for, IsHeld, without, tags_of, tags_if, Collects}
 
 -- an order of keys finds a key where two keys are one
 abbrev pub FindsKeys : (Key → Key → Ordering) → Type 0
@@ -86,3 +88,32 @@ held-same {X = X} P old new same all q = subst (λ (es : List (Key × X)). IfSom
 pub push-some : (tags : List ℕ) (tag : ℕ) (longer : List ℕ) → longer ≡ tags ++ tag ∷ [] → longer ≡ [] → ⊥
 push-some [] tag longer e f = absurd (some-tags tag [] (sym e ∙ f))
 push-some (t ∷ tags) tag longer e f = absurd (some-tags t (tags ++ tag ∷ []) (sym e ∙ f))
+
+-- ---- what is taken away again
+
+without-finds : {X : Type 0} (C : Key → Key → Ordering) → FindsKeys C → (es : List (Key × X)) (key : Key) → remove_entry (is_at (C key)) es ≡ without key es
+without-finds C finds [] key = refl
+without-finds C finds (e ∷ es) key =
+    ap (λ b. cond b es (e ∷ remove_entry (is_at (C key)) es)) (finds key e.0) ∙ ap (λ l. cond (key_eq key e.0) es (e ∷ l)) (without-finds C finds es key)
+
+pub held-removed : {X : Type 0} (C : Key → Key → Ordering) → FindsKeys C → (old new : List (Key × X)) (key : Key) → new ≡ remove_entry (is_at (C key)) old → new ≡ without key old
+held-removed C finds old new key e = e ∙ without-finds C finds old key
+
+-- a structure that had nothing, and was given something
+inserted-without : {X : Type 0} (C : Key → Key → Ordering) → FindsKeys C → (es : List (Key × X)) (key : Key) (value : X) → held_for es key ≡ None → without key (insert_entry C es key value) ≡ es
+inserted-without C finds [] key value none = ap (λ b. cond b [] ((key, value) ∷ [])) (key-itself key)
+inserted-without {X = X} C finds (e ∷ es) key value none = go (C key e.0) refl (key_eq key e.0) refl none (inserted-without C finds es key value)
+  where
+    some_none : Some e.1 ≡ None → ⊥
+    some_none p = cc
+
+    go : (o : Ordering) → C key e.0 ≡ o → (b : Bool) → key_eq key e.0 ≡ b → (if b then Some e.1 else held_for es key) ≡ None
+        → (held_for es key ≡ None → without key (insert_entry C es key value) ≡ es)
+        → without key (match_ordering o ((key, value) ∷ e ∷ es) ((e.0, value) ∷ es) (e ∷ insert_entry C es key value)) ≡ e ∷ es
+    go o p true q n later = absurd (some_none n)
+    go Less p false q n later = ap (λ b. cond b (e ∷ es) ((key, value) ∷ without key (e ∷ es))) (key-itself key)
+    go Equal p false q n later = absurd (both_ways true (sym (ap (λ (x : Ordering). is_eq x) p) ∙ (finds key e.0 ∙ q)) refl)
+    go Greater p false q n later = ap (λ b. cond b (insert_entry C es key value) (e ∷ without key (insert_entry C es key value))) q ∙ ap (λ l. e ∷ l) (later n)
+
+pub held-back : {X : Type 0} (C : Key → Key → Ordering) → FindsKeys C → (old new : List (Key × X)) (key : Key) (value : X) → new ≡ insert_entry C old key value → held_for old key ≡ None → without key new ≡ old
+held-back {X = X} C finds old new key value e none = ap (λ (l : List (Key × X)). without key l) e ∙ inserted-without C finds old key value none

@@ -10,3 +10,11 @@ pub mod KeyOrder
 pub mod OpeningLemmas
 pub mod NamedLemmas
 pub mod TableLemmas
+pub mod SameLemmas
+pub mod ChangedLemmas
+pub mod EntryLemmas
+pub mod KeptLemmas
+pub mod RenewLemmas
+pub mod SameValues
+pub mod TouchLemmas
+pub mod PlaceLemmas

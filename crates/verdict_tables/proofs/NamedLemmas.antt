@@ -14,10 +14,10 @@ use Rattle.verdict_tables.specs.Places.{changed_key, report_places, bound_places
 use Rattle.verdict_tables.specs.Collecting.{named_places, sent_places, collected_places}
 
 -- some tags, if some of these instructions can change the structure
-abbrev changed_by : List ℕ → Key → ℕ → List Instruction → List ℕ
+abbrev pub changed_by : List ℕ → Key → ℕ → List Instruction → List ℕ
 changed_by bounds key m xs = if is_some (first_of_list (filter_map (numbered_change key) (enumerate_from m xs))) then bounds else []
 
-forth : (bounds : List ℕ) (key : Key) (n m : ℕ) (xs : List Instruction) → IsIn n (named_places bounds (filter_map changed_key xs) key) → IsIn n (changed_by bounds key m xs)
+pub forth : (bounds : List ℕ) (key : Key) (n m : ℕ) (xs : List Instruction) → IsIn n (named_places bounds (filter_map changed_key xs) key) → IsIn n (changed_by bounds key m xs)
 forth bounds key n m [] i = i
 forth bounds key n m (on_structure named change ∷ xs) i = outer (changes change) i (λ j. forth bounds key n (m + 1) xs j)
   where
@@ -50,7 +50,7 @@ forth bounds key n m (on_statistics change ∷ xs) i = forth bounds key n (m + 1
 forth bounds key n m (report_values ids ∷ xs) i = forth bounds key n (m + 1) xs i
 forth bounds key n m (set_values settings ∷ xs) i = forth bounds key n (m + 1) xs i
 
-back : (bounds : List ℕ) (key : Key) (n m : ℕ) (xs : List Instruction) → IsIn n (changed_by bounds key m xs) → IsIn n (named_places bounds (filter_map changed_key xs) key)
+pub back : (bounds : List ℕ) (key : Key) (n m : ℕ) (xs : List Instruction) → IsIn n (changed_by bounds key m xs) → IsIn n (named_places bounds (filter_map changed_key xs) key)
 back bounds key n m [] i = i
 back bounds key n m (on_structure named change ∷ xs) i = outer (changes change) i (λ j. back bounds key n (m + 1) xs j)
   where

@@ -17,7 +17,7 @@ use Rattle.definition_intervals.specs.Openings.{Candidate, Opening, is_at_most, 
 use Rattle.verdict_tables.specs.Places.{can_change, report_places, bound_places, request_places, places}
 
 -- a function that is the same at each member
-filter_map-same : {X Y : Type 0} (f g : X → Option Y) (xs : List X) → ((x : X) → IsIn x xs → f x ≡ g x) → filter_map f xs ≡ filter_map g xs
+pub filter_map-same : {X Y : Type 0} (f g : X → Option Y) (xs : List X) → ((x : X) → IsIn x xs → f x ≡ g x) → filter_map f xs ≡ filter_map g xs
 filter_map-same f g [] h = refl
 filter_map-same {Y = Y} f g (x ∷ xs) h =
     ap (λ (o : Option Y). cons_option o (filter_map f xs)) (h x (inl refl)) ∙ ap (λ l. cons_option (g x) l) (filter_map-same f g xs (λ y i. h y (inr i)))

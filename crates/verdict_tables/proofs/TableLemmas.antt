@@ -110,19 +110,20 @@ built-formed g structures built key = go (held_for structures key) (built key)
     go None has = tt
     go (Some ranges) has = has.formed
 
+-- the basis that is held for a structure is that of its openings
+pub basis-by : (g : Ground) (key : Key) (tag : ℕ) (found : Option RangeParts) → HasTable g key found
+    → IsBasis g.tailoring (openings g.tailoring g.history key tag) (option_map_or (λ ranges. basis_in ranges tag) found (start_basis g.tailoring g.history.known key))
+basis-by g key tag None h = start-basis g.tailoring g.history key tag h
+basis-by g key tag (Some ranges) h = basis-in g.tailoring g.history key ranges tag h.firsts h.bases
+
 pub built-stands : (g : Ground) (structures : List (Key × RangeParts)) → BasesDecide → IsBuilt g structures
     → StandsFor (record { tailoring = Some g.tailoring; known = g.history.known; structures = structures }) g
 built-stands g structures decide built =
     record {
-      verdicts = λ key tag payload. decide g.tailoring (openings g.tailoring g.history key tag) _ tag payload (basis key tag (held_for structures key) (built key));
+      verdicts = λ key tag payload. decide g.tailoring (openings g.tailoring g.history key tag) _ tag payload (basis-by g key tag (held_for structures key) (built key));
       ranges = λ key. has (held_for structures key) key (built key);
     }
   where
-    basis : (key : Key) (tag : ℕ) (found : Option RangeParts) → HasTable g key found
-        → IsBasis g.tailoring (openings g.tailoring g.history key tag) (option_map_or (λ ranges. basis_in ranges tag) found (start_basis g.tailoring g.history.known key))
-    basis key tag None h = start-basis g.tailoring g.history key tag h
-    basis key tag (Some ranges) h = basis-in g.tailoring g.history key ranges tag h.firsts h.bases
-
     has : (found : Option RangeParts) (key : Key) → HasTable g key found → HasRanges g.history key found
     has None key h = h
     has (Some ranges) key h = (h.some, h.firsts)

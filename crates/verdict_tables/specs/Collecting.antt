@@ -2,7 +2,7 @@
 use Rattle.std.specs.Prelude.{◌≡◌, ◌≢◌, ℕ, List, [], ◌++◌, flat_map, Option, MatchOption, unwrap_or, if◌then◌else◌}
 use Rattle.std.specs.Option.{option_map_or}
 use Rattle.std.specs.List.{All, enumerate_from}
-use Rattle.std.specs.Map.{lookup}
+use Rattle.std.specs.Map.{lookup, remove_entry}
 use Rattle.hk_base.specs.Parameters.{key_eq}
 use Rattle.hk_base.specs.declared.types.Key.{Key}
 use Rattle.ground_history.specs.Histories.{Sent, History}
@@ -18,6 +18,10 @@ held_for held key = lookup (key_eq key) held
 -- what is held for one structure is now this, and for each other one what it was
 abbrev pub IsHeld : {X : Type 0} → Key → Option X → List (Key × X) → List (Key × X) → Type 0
 IsHeld key value old new = (other : Key) → held_for new other ≡ (if key_eq key other then value else held_for old other)
+
+-- what is held without a structure
+abbrev pub without : {X : Type 0} → Key → List (Key × X) → List (Key × X)
+without key held = remove_entry (key_eq key) held
 
 -- the tags that were collected for a structure
 abbrev pub tags_of : List (Key × List ℕ) → Key → List ℕ

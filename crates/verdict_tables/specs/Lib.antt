@@ -1,3 +1,5 @@
 pub mod Places
 pub mod Tables
 pub mod Collecting
+pub mod Mending
+pub mod Touching

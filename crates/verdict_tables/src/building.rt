@@ -5,6 +5,7 @@ ghost use Rattle.hk_base.specs.declared.types.Key.{Key};
 ghost use Rattle.ground_history.specs.Ground.{IsGrounded};
 ghost use Rattle.verdict_tables.specs.Places.{is_among, places};
 ghost use Rattle.verdict_tables.specs.Collecting.{IsTable, HasTable, collected_places, held_for};
+ghost use Rattle.verdict_tables.specs.Mending.{AreRangesAt};
 
 use crate::collecting::collected;
 use crate::ranges::Ranges;
@@ -41,6 +42,18 @@ fn ranges_from(
     requires tags { tags ≡ collected_places history.now.history key }
     requires some { tags ≢ [] }
     ensures { IfOk result (IsTable history.now key) }
+{
+    ranges_at(alloc, history, key, tags)
+}
+
+/// The ranges of a structure that begin at 0 and at these tags.
+pub(crate) fn ranges_at(
+    alloc: Global,
+    history: &History,
+    key: Key,
+    tags: Items<u64>,
+) -> Result<Ranges, Memory>
+    ensures { IfOk result (AreRangesAt history.now key tags) }
 {
     let firsts = firsts_from(tags)?;
     let bases = bases(alloc, history, key, &firsts)?;

@@ -40,6 +40,13 @@ impl Ranges {
         self.firsts.len() as u32
     }
 
+    /// The first tags of all ranges.
+    pub(crate) fn firsts(&self) -> &[u64]
+        ensures { result.now ≡ self.now.firsts }
+    {
+        self.firsts.as_slice()
+    }
+
     /// The first tag of a range, by its number from 0. It is one step.
     pub fn first<L: Ledger>(&self, number: u32, steps: &mut Steps<L>) -> u64
         requires { number < length self.now.firsts }

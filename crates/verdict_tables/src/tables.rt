@@ -23,11 +23,11 @@ use std::sync::ledger::Ledger;
 /// What verdicts on parameter reports rest on, by ranges of tags for each structure.
 #[derive(Drop)]
 pub struct Tables {
-    alloc: Global,
+    pub(crate) alloc: Global,
     /// None before they stand for a history.
-    tailoring: Option<Tailoring>,
-    known: bool,
-    structures: Structures,
+    pub(crate) tailoring: Option<Tailoring>,
+    pub(crate) known: bool,
+    pub(crate) structures: Structures,
 }
 
 impl Model for Tables {

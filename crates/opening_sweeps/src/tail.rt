@@ -1,7 +1,8 @@
 //! Requests that a report may come before: each may be left out.
 ghost use Rattle.std.specs.Prelude.{◌≡◌, ◌≤◌, ℕ, List, Option, IfOk, All, length, take, drop};
 ghost use Rattle.hk_base.specs.declared.types.Structure.{Structure};
-ghost use Rattle.definition_intervals.specs.Founds.{IsFormedFound, AreSameFound, found_after_all};
+ghost use Rattle.definition_intervals.specs.Founds.{IsFormedFound, AreSameFound, found_after, found_after_all};
+ghost use Rattle.definition_intervals.specs.Findings.{IsFormedCandidate};
 ghost use Rattle.opening_sweeps.specs.Requests.{IsFormedRequest};
 ghost use Rattle.opening_sweeps.specs.Groups.{courses, unsure, IsReached};
 ghost use Rattle.opening_sweeps.specs.declared.group.Group as declared;
@@ -9,7 +10,7 @@ ghost use Rattle.opening_sweeps.specs.declared.group.Group as declared;
 use crate::bounded::Bounded;
 use crate::group::Group;
 use crate::settling::as_request;
-use definition_intervals::{found_after, same_is_found};
+use definition_intervals::{Candidate, found_after, is_same_found, same_is_found};
 use hk_base::{Items, Memory, Structure, Tailoring};
 use std::alloc::Global;
 
@@ -92,7 +93,27 @@ fn found_over(
     let mut found = found;
     for place in from..to {
         let request = as_request(&requests[place], false);
-        found = found_after(alloc, tailoring, &request, &found)?;
+        found = later_found(alloc, tailoring, &request, found)?;
     }
     Ok(found)
+}
+
+/// What is found after one more request. Where it is the same as before, it is kept in its order, so that bases by it are equal too.
+fn later_found(
+    alloc: Global,
+    tailoring: &Tailoring,
+    request: &Candidate<'_>,
+    found: Option<Items<Option<Structure>>>,
+) -> Result<Option<Items<Option<Structure>>>, Memory>
+    requires request { IsFormedCandidate tailoring.now request.now }
+    requires found { IsFormedFound tailoring.now found }
+    ensures same { IfOk result (λ later. AreSameFound later (found_after tailoring.now request.now found)) }
+    ensures formed { IfOk result (IsFormedFound tailoring.now) }
+{
+    let later = found_after(alloc, tailoring, request, &found)?;
+    if is_same_found(&found, &later) {
+        Ok(found)
+    } else {
+        Ok(later)
+    }
 }

@@ -1,6 +1,7 @@
 //! The real files and the real standard output. They tell nothing of what they hold.
-ghost use Rattle.std.specs.Prelude.{◌≡◌, ◌≤◌, None};
-ghost use Rattle.hk_base.specs.Outside.{most_faults};
+ghost use Rattle.std.specs.Prelude.{◌≡◌, ◌≤◌, ◌<◌, IfOk, None, length};
+ghost use Rattle.std.specs.Io.KnownBytes.{WriteAppends};
+ghost use Rattle.hk_base.specs.Outside.{Counts, IsCount, Takes, most_faults};
 
 use hk_base::{Failed, Shelf, Sink};
 use std::fs::File;
@@ -80,7 +81,14 @@ impl<W: Write> Sink for OutSink<W> {
 
     ghost room = { λ _. None };
 
-    fn write(&mut self, piece: &[u8]) -> Result<usize, Failed> {
+    fn write(&mut self, piece: &[u8]) -> Result<usize, Failed>
+        requires { 0 < length piece.now }
+        ensures count { Counts self.old.faults self.new.faults result }
+        ensures bound { IsCount self.new.faults }
+        ensures within { IfOk result (λ n. (0 < n) × (n ≤ length piece.now)) }
+        ensures took { IfOk result (λ n. Takes None n piece.now None) }
+        ensures wrote { WriteAppends (W.contents self.old.out) (W.contents self.new.out) result piece.now }
+    {
         if let Ok(count) = self.out.write(piece) {
             if count > 0 {
                 return Ok(count);

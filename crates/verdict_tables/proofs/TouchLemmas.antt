@@ -1,20 +1,22 @@
 -- What a verification report changes of structures.
-use Rattle.std.proofs.Common.{arith, ◌≡◌, ℕ, ◌+◌, refl, sym, ◌∙◌, ap, subst, List, [], ◌∷◌, ◌++◌, map, max, min, Bool, true, false, ◌||◌, ◌==◌, ◌&&◌, inl, inr, ◌⊎◌, Option, Some, None, cond, flat_map}
-use Rattle.std.specs.Prelude.{◌≢◌, filter, if◌then◌else◌}
+use Rattle.std.proofs.Common.{arith, ◌≡◌, ℕ, zero, suc, ◌+◌, ◌<◌, ◌≤◌, take, length, unwrap_or, IfSome, refl, sym, ◌∙◌, ap, subst, List, [], ◌∷◌, ◌++◌, map, max, min, Bool, true, false, ◌||◌, ◌==◌, ◌&&◌, inl, inr, ◌⊎◌, Option, Some, None, cond, flat_map}
+use Rattle.std.specs.Prelude.{◌≢◌, filter, nat_lt, IsSomeAnd, if◌then◌else◌}
 use Rattle.std.specs.List.{enumerate_from}
-use Rattle.std.proofs.lemmas.Bool.{both_ways, or_parts, or_cases, eqb-false, eq-eqb}
+use Rattle.std.specs.Option.{option_map_or}
+use Rattle.std.proofs.lemmas.Bool.{both_ways, or_parts, or_cases, or_from, and_parts, eqb-false, eq-eqb, ne_eqb, ltb-true}
 use Rattle.hk_base.specs.Parameters.{key_eq}
 use Rattle.hk_base.specs.declared.types.Key.{Key}
 use Rattle.hk_base.proofs.Membership.{IsIn}
-use Rattle.ground_history.specs.Histories.{Kept, History, tag_of, greatest}
+use Rattle.ground_history.specs.Histories.{Sent, Kept, History, tag_of, greatest}
 use Rattle.ground_history.specs.Evidence.{passes, comes_before, comes_after, low, high, floor, shows_accepted, shows_barred, shows_refused, shows_executed}
-use Rattle.ground_history.specs.Ground.{Ground, with_history}
+use Rattle.ground_history.specs.Ground.{Ground, IsGrounded, with_history}
+use Rattle.ground_history.specs.Rising.{BoundsRise}
 use Rattle.ground_history.proofs.KeptLemmas.{tags, greatest-insert_kept}
 use Rattle.ground_history.proofs.SayLemmas.{lower, tag_if, least-step, least-insert_kept}
 use Rattle.definition_intervals.specs.Openings.{reported_structure}
 use Rattle.verdict_tables.specs.Places.{places}
 use Rattle.verdict_tables.specs.Mending.{with_packet, keys_of_sent, is_named, IsLocal}
-use Rattle.verdict_tables.specs.Touching.{AreSameKeys, is_tag, is_touched, touched_keys_of, keys_touched}
+use Rattle.verdict_tables.specs.Touching.{AreSameKeys, is_tag, is_touched, has_ended, touched_keys_of, keys_touched}
 use Rattle.verdict_tables.proofs.KeyOrder.{same-key}
 use Rattle.verdict_tables.proofs.OpeningLemmas.{bounds-there}
 use Rattle.verdict_tables.proofs.SameLemmas.{IsSame, IsSameTo, AreSameTo, kept-alike}
@@ -67,6 +69,44 @@ untouched-same h n k e =
       refused = λ number. ap (λ b. b && passes (shows_refused number) n.report.body) q.0;
       executed = λ alone number. ap (λ b. b && passes (shows_executed alone number) n.report.body) q.0;
     })
+
+-- a request up to one that has ended isn't touched, if the report is on a later one
+pub ended-untouched : BoundsRise → (g : Ground) (n : Kept) (k m limit : ℕ) → IsGrounded g → has_ended g.history m (tag_of n) ≡ true → k ≤ m → m < length g.history.requests → m < limit
+    → limit ≤ unwrap_or n.number limit → is_touched g.history n k ≡ false
+ended-untouched law g n k m limit grounded ended le sent on later =
+    or_from (is_tag n.number k || low h k == tag_of n) (is_tag (high h k) (tag_of n)) (or_from (is_tag n.number k) (low h k == tag_of n) (other n.number later) (below (high h m) ended)) (under (high h k) (high h m) (law g k m grounded le sent).high ended)
+  where
+    h : History
+    h = g.history
+
+    other : (o : Option ℕ) → limit ≤ unwrap_or o limit → is_tag o k ≡ false
+    other None l = refl
+    other (Some j) l = ne_eqb j k (λ e. omega (arith, e, l, le, on))
+
+    below : (o : Option ℕ) → option_map_or (λ top. nat_lt top (tag_of n) && nat_lt (low h m) (tag_of n)) o false ≡ true → (low h k == tag_of n) ≡ false
+    below None e = absurd (both_ways false refl e)
+    below (Some top) e =
+        let lt = ltb-true (low h m) (tag_of n) (and_parts (nat_lt top (tag_of n)) (nat_lt (low h m) (tag_of n)) e).1 in
+        let rise = (law g k m grounded le sent).low in
+        ne_eqb (low h k) (tag_of n) (λ p. omega (arith, p, lt, rise))
+
+    under : (o p : Option ℕ) → IfSome p (λ top. IsSomeAnd o (λ t. t ≤ top)) → option_map_or (λ top. nat_lt top (tag_of n) && nat_lt (low h m) (tag_of n)) p false ≡ true → is_tag o (tag_of n) ≡ false
+    under o None rise e = absurd (both_ways false refl e)
+    under None (Some top) rise e = refl
+    under (Some t) (Some top) rise e =
+        let lt = ltb-true top (tag_of n) (and_parts (nat_lt top (tag_of n)) (nat_lt (low h m) (tag_of n)) e).0 in
+        ne_eqb t (tag_of n) (λ p. omega (arith, p, lt, rise))
+
+-- requests that aren't touched name nothing
+pub untouched-none : (h : History) (n : Kept) (from : ℕ) → ((k : ℕ) → k < from → is_touched h n k ≡ false) → flat_map (touched_keys_of h n) (take from (enumerate_from 0 h.requests)) ≡ []
+untouched-none h n from none = go from 0 h.requests (λ k l u. none k (omega (arith, l, u)))
+  where
+    go : (room first : ℕ) (ss : List Sent) → ((k : ℕ) → first ≤ k → k < first + room → is_touched h n k ≡ false) → flat_map (touched_keys_of h n) (take room (enumerate_from first ss)) ≡ []
+    go zero first ss q = refl
+    go (suc room) first [] q = refl
+    go (suc room) first (s ∷ ss) q =
+        ap (λ b. (if b then keys_of_sent s.request else []) ++ flat_map (touched_keys_of h n) (take room (enumerate_from (first + 1) ss))) (q first (omega arith) (omega arith))
+        ∙ go room (first + 1) ss (λ k l u. q k (omega (arith, l)) (omega (arith, u)))
 
 -- ---- the structures of requests that are touched
 

@@ -1,5 +1,5 @@
 //! The structures of which a verification report may have changed the places or the openings.
-ghost use Rattle.std.specs.Prelude.{◌≡◌, ◌<◌, ◌++◌, ◌∷◌, [], IfOk, OnOk, Some, length, slice_get};
+ghost use Rattle.std.specs.Prelude.{◌≡◌, ◌<◌, ◌≤◌, ℕ, false, ◌++◌, ◌∷◌, [], IfOk, OnOk, Some, length, slice_get};
 ghost use Rattle.std.specs.Option.{option_copied};
 ghost use Rattle.hk_base.specs.Parameters.{key_eq};
 ghost use Rattle.ground_history.specs.Histories.{Sent};
@@ -8,7 +8,7 @@ ghost use Rattle.verdict_tables.specs.Touching.{AreSameKeys, is_tag, keys_touche
 ghost use Rattle.verdict_tables.specs.Mending.{is_named, keys_of_sent};
 
 use crate::keys::changed_keys;
-use ground_history::{History, KeptPacket};
+use ground_history::{History, KeptPacket, bounds_rise};
 use hk_base::{Key, Memory};
 use pus_messages::Request;
 use std::alloc::Global;
@@ -22,10 +22,42 @@ pub(crate) fn touched_keys(
     ensures { IfOk result (λ keys. AreSameKeys keys.items (keys_touched history.now.history kept.now)) }
 {
     let mut keys = Vec::new(alloc);
-    for number in 0..history.count() {
+    for number in first_touched(history, kept)..history.count() {
         add_touched(alloc, history, kept, number, &mut keys)?;
     }
     Ok(keys)
+}
+
+/// A request before which the report shows nothing new: each earlier one has ended below its tag. It is found by halves.
+fn first_touched(history: &History, kept: &KeptPacket) -> u64
+    ensures within { result ≤ length history.now.history.requests }
+    ensures untouched { (k : ℕ) → k < result → touching.is_touched history.now.history kept.now k ≡ false }
+{
+    // A law: it says that bounds rise, and does nothing.
+    bounds_rise();
+    let _tailoring = history.tailoring();
+    let mut from = 0;
+    let mut to = history.count().min(kept.number().unwrap_or(u64::MAX));
+    while from < to {
+        let middle = from + (to - from) / 2;
+        if has_ended(history, middle, kept.tag()) {
+            from = middle + 1;
+        } else {
+            to = middle;
+        }
+    }
+    from
+}
+
+/// Whether both bounds of a request are below a tag.
+fn has_ended(history: &History, number: u64, tag: u64) -> bool
+    requires { number < length history.now.history.requests }
+    ensures { result ≡ touching.has_ended history.now.history number tag }
+{
+    match history.high(number) {
+        Some(high) => high < tag && history.low(number) < tag,
+        None => false,
+    }
 }
 
 /// Adds the structures of a request, if the report may have shown something new of it.

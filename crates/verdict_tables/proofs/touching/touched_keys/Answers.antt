@@ -1,4 +1,4 @@
-use Rattle.std.proofs.Common.{arith, ◌∙◌, ◌<◌, ◌++◌, ℕ, List, [], refl, ap, subst, take, flat_map}
+use Rattle.std.proofs.Common.{arith, ◌∙◌, ◌<◌, ◌++◌, ℕ, List, [], refl, sym, ap, subst, take, flat_map}
 use Rattle.std.specs.List.{enumerate_from}
 use Rattle.std.proofs.lemmas.List.{take_all}
 use Rattle.std.proofs.lemmas.List.FromFn.{length-enumerate_from}
@@ -8,8 +8,14 @@ use Rattle.verdict_tables.specs.Mending.{is_named}
 use Rattle.verdict_tables.specs.Touching.{touched_keys_of}
 use Rattle.verdict_tables.proofs.CollectLemmas.{member-at}
 use Rattle.verdict_tables.proofs.PlaceLemmas.{numbered-next}
-use Rattle.verdict_tables.proofs.TouchLemmas.{same-then}
+use Rattle.verdict_tables.proofs.TouchLemmas.{same-then, untouched-none}
 use Rattle.verdict_tables.proofs.touching.touched_keys.Goals as goal
+
+pub loop-number-init : goal.loop-number-init
+loop-number-init c =
+    λ key.
+    ap (λ (l : List Key). is_named key l)
+    (c.new-keys.ensures.items ∙ sym (untouched-none c.args.history.now.history c.args.kept.now c.first_touched-number.result c.first_touched-number.ensures.untouched))
 
 pub loop-number-preserved : goal.loop-number-preserved
 loop-number-preserved c =

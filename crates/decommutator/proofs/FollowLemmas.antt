@@ -12,7 +12,7 @@ use Rattle.session_texts.specs.Follow.{is_ready, has_tag}
 use Rattle.block_lines.specs.declared.counts.Counts.{Counts}
 use Rattle.block_lines.specs.Counts.{lines_of}
 use Rattle.live_verdicts.specs.Marks.{Live}
-use Rattle.live_verdicts.specs.Changes.{AreSameBelow}
+use Rattle.entry_changes.specs.Changes.{AreSameBelow}
 use Rattle.decommutator.specs.Standing.{Standing, Decommutation, with_entry, counts_with, ground_after}
 use Rattle.decommutator.specs.Following.{followed_text, after_followed, closing_text}
 use Rattle.decommutator.specs.Due.{came_of, new_tag, with_new, AreRising, due_text, waits, last_text, waiting_packets}

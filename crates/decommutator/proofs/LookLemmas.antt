@@ -8,7 +8,7 @@ use Rattle.std.specs.Prelude.{OnOk, filter, flat_map}
 use Rattle.std.specs.List.{AllByRecursion}
 use Rattle.pus_messages.specs.declared.message.Report.{Report}
 use Rattle.ground_history.specs.Ground.{Ground}
-use Rattle.live_verdicts.specs.Changes.{IsBelow}
+use Rattle.entry_changes.specs.Changes.{IsBelow}
 use Rattle.session_record.specs.declared.entry.WriteFault.{WriteFault}
 use Rattle.session_texts.specs.Blocks.{body_block}
 use Rattle.decommutator.specs.Output.{Seen, Proceeds}

@@ -22,7 +22,7 @@ use Rattle.session_record.specs.declared.entry.Entry.TheVariants.{Sent, Got, Lin
 use Rattle.session_texts.specs.Sessions.{known_with}
 use Rattle.session_texts.specs.Blocks.{block}
 use Rattle.session_texts.specs.Follow.{is_decision, is_ready, is_ready_body, has_tag}
-use Rattle.live_verdicts.specs.Changes.{IsBelow, AreSameBelow}
+use Rattle.entry_changes.specs.Changes.{IsBelow, AreSameBelow}
 use Rattle.decommutator.specs.Due.{came_sent, came_got, came_of, new_tag, is_below, is_new, is_same, with_new, insert_tag, AreRising, report_from, due_text, waits, last_text, is_waiting, due_block, last_block, waiting_packets}
 use Rattle.decommutator.specs.Follows.{AreWaiting}
 use Rattle.decommutator.specs.declared.changed.Changed.{Changed}

@@ -2,13 +2,13 @@
 ghost use Rattle.std.specs.Prelude.{◌≡◌, ◌&&◌, ℕ, not, true, Ok, Some};
 ghost use Rattle.ground_history.specs.Ground.{Ground, IsGrounded};
 ghost use Rattle.session_record.specs.declared.entry.Entry.{Entry};
-ghost use Rattle.live_verdicts.specs.Changes.{IsBelow, AreSameBelow, AreUnsureSame};
+ghost use Rattle.entry_changes.specs.Changes.{IsBelow, AreSameBelow, AreUnsureSame};
 ghost use Rattle.decommutator.specs.Standing.{ground_after};
 ghost use Rattle.decommutator.specs.Due as due;
 ghost use Rattle.decommutator.specs.Due.{came_of, new_tag};
 
+use entry_changes::{changed_by_kept, changed_by_sent, sent_touches_none, touched_by_kept};
 use ground_history::{GotKind, History};
-use live_verdicts::{changed_by_kept, changed_by_sent, sent_touches_none, touched_by_kept};
 
 /// What an entry brought to what is known.
 #[derive(Clone, Copy, Drop)]

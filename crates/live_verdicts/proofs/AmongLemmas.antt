@@ -15,7 +15,7 @@ use Rattle.definition_intervals.specs.Findings.{IsFormedCandidate}
 use Rattle.definition_intervals.proofs.GatherLemmas.{IsCandidateAt, IsGroundedRequest, candidate-formed, numbered-IsIn, member-at, take-more_at}
 use Rattle.opening_sweeps.specs.Requests.{Start, told_start, told_starts, IsFormedStart}
 use Rattle.opening_sweeps.proofs.GatherLemmas.{IsNext}
-use Rattle.live_verdicts.specs.Changes.{told_start_below}
+use Rattle.entry_changes.specs.Changes.{told_start_below}
 use Rattle.live_verdicts.specs.Marks.{among, told_between}
 use Rattle.live_verdicts.proofs.SplitLemmas.{taken-in, dropped-in}
 use Rattle.live_verdicts.proofs.ToldLemmas.{from_tag}

@@ -23,7 +23,7 @@ use Rattle.definition_intervals.proofs.GatherLemmas.{numbered-IsIn}
 use Rattle.opening_sweeps.specs.Requests.{Start}
 use Rattle.opening_sweeps.proofs.FoldLemmas.{same-refl, same-sym, same-trans, after_all-same, after_all-append, first_all-append}
 use Rattle.opening_sweeps.proofs.BasisLemmas.{in-map, map-in}
-use Rattle.live_verdicts.specs.Changes.{unsure, unsures}
+use Rattle.entry_changes.specs.Changes.{unsure, unsures}
 use Rattle.live_verdicts.specs.Marks.{found_at, first_found, first_at, AreAlike, AreFound, AreKnown, HasSame, IsFormedMark, IsMarkOf, Leaves, among, passed, with_calm}
 use Rattle.live_verdicts.specs.declared.mark.Mark.{Mark}
 use Rattle.live_verdicts.proofs.AmongLemmas.{next-numbered}

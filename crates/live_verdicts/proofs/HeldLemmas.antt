@@ -17,7 +17,7 @@ use Rattle.definition_intervals.specs.Openings.{Candidate, candidate, candidates
 use Rattle.definition_intervals.specs.Founds.{first_after_all}
 use Rattle.definition_intervals.proofs.StateLemmas.{key_eq-same}
 use Rattle.opening_sweeps.specs.Requests.{boot_starts}
-use Rattle.live_verdicts.specs.Changes.{IsBelow, IsUpTo, AreSameBelow, AreUnsureSame, told_below, unsures}
+use Rattle.entry_changes.specs.Changes.{IsBelow, IsUpTo, AreSameBelow, AreUnsureSame, told_below, unsures}
 use Rattle.live_verdicts.specs.Marks.{starts_below, among, passed, AreFound, AreKnown, IsFormedMark, IsMark, IsKept, StandsFor, narrowed_to, with_calm, IsPlaceOf}
 use Rattle.live_verdicts.specs.declared.mark.Mark.{Mark}
 use Rattle.live_verdicts.specs.declared.mark.StructureMark.{StructureMark}

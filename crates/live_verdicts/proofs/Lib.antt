@@ -1,5 +1,3 @@
-pub mod SameLemmas
-pub mod KeptLemmas
 pub mod SplitLemmas
 pub mod ToldLemmas
 pub mod FindLemmas
@@ -8,4 +6,3 @@ pub mod MarkLemmas
 pub mod GrowLemmas
 pub mod HeldLemmas
 pub mod PlaceLemmas
-pub mod TouchLemmas

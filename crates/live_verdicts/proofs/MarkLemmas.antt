@@ -23,11 +23,11 @@ use Rattle.opening_sweeps.proofs.JoinLemmas.{formed-one}
 use Rattle.opening_sweeps.proofs.FoldLemmas.{after_all-append, first_all-append}
 use Rattle.opening_sweeps.proofs.ListLemmas.{opening_of, all-found, last_start, AreInOrder, named-last}
 use Rattle.opening_sweeps.proofs.BasisLemmas.{basis-covered}
-use Rattle.live_verdicts.specs.Changes.{told_start_below, told_below, unsures}
+use Rattle.entry_changes.specs.Changes.{told_start_below, told_below, unsures}
 use Rattle.live_verdicts.specs.Marks.{starts_below, found_at, first_found, first_at, AreAlike, AreFound, AreKnown, IsFormedMark, IsMark, HavePassed, ArePending, HoldsFor, GoesOn, ComesTo, IsNear, AreListedBelow, among, passed, told_between, found_by, first_by}
 use Rattle.live_verdicts.specs.declared.mark.Mark.{Mark}
 use Rattle.live_verdicts.proofs.SplitLemmas.{candidates-front, open-same, passed-same, passed-split, passed-behind, passed-later}
-use Rattle.live_verdicts.proofs.SameLemmas.{filter_map-none}
+use Rattle.entry_changes.proofs.SameLemmas.{filter_map-none}
 use Rattle.live_verdicts.proofs.ToldLemmas.{told-split, told-after}
 use Rattle.live_verdicts.proofs.FindLemmas.{alike-covered, alike-refl, alike-trans, alike-after}
 

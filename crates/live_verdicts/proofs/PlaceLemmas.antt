@@ -10,7 +10,7 @@ use Rattle.ground_history.specs.Histories.{History}
 use Rattle.ground_history.specs.Ground.{Ground}
 use Rattle.definition_intervals.proofs.StateLemmas.{key_eq-same}
 use Rattle.opening_sweeps.specs.Requests.{Start}
-use Rattle.live_verdicts.specs.Changes.{AreSameBelow, AreUnsureSame, told_below}
+use Rattle.entry_changes.specs.Changes.{AreSameBelow, AreUnsureSame, told_below}
 use Rattle.live_verdicts.specs.Marks.{starts_below, HavePassed, ArePending, IsMarkOf, IsMark, IsKept, ComesTo, IsGrown, IsPlaceOf, StandsFor, narrowed_to, with_calm, calm_at}
 use Rattle.live_verdicts.specs.declared.mark.Mark.{Mark}
 use Rattle.live_verdicts.specs.declared.mark.StructureMark.{StructureMark}

@@ -15,10 +15,10 @@ use Rattle.ground_history.specs.Ground.{Ground, IsGrounded}
 use Rattle.ground_history.specs.Rising.{BoundsRise}
 use Rattle.ground_history.proofs.SayLemmas.{nothing}
 use Rattle.definition_intervals.specs.Openings.{Candidate, is_at_most, is_possible, is_certain, candidate, candidates}
-use Rattle.live_verdicts.specs.Changes.{unsure, unsures}
+use Rattle.entry_changes.specs.Changes.{unsure, unsures}
 use Rattle.live_verdicts.specs.Marks.{among, passed, HavePassed, HaveBegun, ArePending, AreLate, HoldsFor, GoesOn}
 use Rattle.live_verdicts.specs.declared.mark.Mark.{Mark}
-use Rattle.live_verdicts.proofs.SameLemmas.{filter_map-same, filter_map-none, enumerate-within}
+use Rattle.entry_changes.proofs.SameLemmas.{filter_map-same, filter_map-none, enumerate-within}
 
 -- ---- upper bounds, and tags
 

@@ -9,9 +9,9 @@ use Rattle.ground_history.specs.Histories.{Kept, History, tag_of}
 use Rattle.ground_history.specs.Ground.{HaveRisingTags, newest_told, tells_structure}
 use Rattle.opening_sweeps.specs.Requests.{Start, told_start}
 use Rattle.opening_sweeps.proofs.GatherLemmas.{all-kept, untold, newest-above}
-use Rattle.live_verdicts.specs.Changes.{told_start_below, told_below}
+use Rattle.entry_changes.specs.Changes.{told_start_below, told_below}
 use Rattle.live_verdicts.specs.Marks.{told_between}
-use Rattle.live_verdicts.proofs.SameLemmas.{filter_map-none}
+use Rattle.entry_changes.proofs.SameLemmas.{filter_map-none}
 
 cons-append : {X : Type 0} (o : Option X) (xs ys : List X) → cons_option o (xs ++ ys) ≡ cons_option o xs ++ ys
 cons-append None xs ys = refl

@@ -13,7 +13,7 @@ use Rattle.definition_intervals.specs.Openings.{Candidate, candidate, is_at_most
 use Rattle.definition_intervals.specs.Founds.{found_after, found_after_all, first_after, first_after_all, AreSameFound, IsFormedFound, IsBasisOf}
 use Rattle.definition_intervals.specs.Bases.{IsFormedBasis}
 use Rattle.opening_sweeps.specs.Requests.{Start, boot_starts}
-use Rattle.live_verdicts.specs.Changes.{told_below, told_start_below, unsures, IsBelow, IsUpTo}
+use Rattle.entry_changes.specs.Changes.{told_below, told_start_below, unsures, IsBelow, IsUpTo}
 use Rattle.live_verdicts.specs.declared.between.Numbers.{Numbers}
 use Rattle.live_verdicts.specs.declared.held.Asked.{Asked}
 use Rattle.live_verdicts.specs.declared.mark.Mark.{Mark}

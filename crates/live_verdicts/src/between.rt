@@ -2,7 +2,7 @@
 ghost use Rattle.std.specs.Prelude.{◌≡◌, ◌≤◌, IfOk, All, length};
 ghost use Rattle.ground_history.specs.Ground.{IsGrounded};
 ghost use Rattle.definition_intervals.specs.Findings.{IsFormedCandidate};
-ghost use Rattle.live_verdicts.specs.Changes as changes;
+ghost use Rattle.entry_changes.specs.Changes as changes;
 ghost use Rattle.live_verdicts.specs.Marks as marks;
 ghost use Rattle.ground_history.specs.Histories.{Kept};
 

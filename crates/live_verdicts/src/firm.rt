@@ -1,7 +1,7 @@
 //! Whether verdicts on reports with a tag go on from a mark.
 ghost use Rattle.std.specs.Prelude.{◌≡◌, ◌<◌, ◌≤◌, true, length};
 ghost use Rattle.definition_intervals.specs.Openings as openings;
-ghost use Rattle.live_verdicts.specs.Changes.{told_below};
+ghost use Rattle.entry_changes.specs.Changes.{told_below};
 ghost use Rattle.live_verdicts.specs.Marks.{ArePending, AreLate, ComesTo, GoesOn, HaveBegun, HavePassed, HoldsFor};
 
 use crate::mark::Mark;

@@ -1,7 +1,7 @@
 //! Which marks stay while entries come.
 ghost use Rattle.std.specs.Prelude.{◌≡◌, true, None};
 ghost use Rattle.ground_history.specs.Ground.{Ground};
-ghost use Rattle.live_verdicts.specs.Changes.{AreSameBelow, AreUnsureSame, IsBelow, IsUpTo};
+ghost use Rattle.entry_changes.specs.Changes.{AreSameBelow, AreUnsureSame, IsBelow, IsUpTo};
 ghost use Rattle.live_verdicts.specs.Marks.{IsKept, StandsFor, narrowed_to};
 
 use crate::mark::{Mark, StructureMark};

@@ -4,7 +4,7 @@ ghost use Rattle.hk_base.specs.declared.types.Structure.{Structure};
 ghost use Rattle.ground_history.specs.Ground.{IsGrounded, newest_told};
 ghost use Rattle.definition_intervals.specs.Founds.{IsFormedFound, first_after_all};
 ghost use Rattle.opening_sweeps.specs.Requests.{IsFormedStart};
-ghost use Rattle.live_verdicts.specs.Changes.{unsures};
+ghost use Rattle.entry_changes.specs.Changes.{unsures};
 ghost use Rattle.live_verdicts.specs.Marks as marks;
 ghost use Rattle.live_verdicts.specs.Marks.{AreAlike, Finds, GoesOn, HoldsFor, IsMark, found_by, first_by, first_found};
 

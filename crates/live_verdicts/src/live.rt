@@ -4,7 +4,7 @@ ghost use Rattle.hk_base.specs.TailoringParts.{TailoringParts};
 ghost use Rattle.ground_history.specs.Histories.{new_history};
 ghost use Rattle.ground_history.specs.Ground.{Ground};
 ghost use Rattle.definition_intervals.specs.Verdicts as verdicts;
-ghost use Rattle.live_verdicts.specs.Changes.{AreSameBelow, AreUnsureSame};
+ghost use Rattle.entry_changes.specs.Changes.{AreSameBelow, AreUnsureSame};
 ghost use Rattle.live_verdicts.specs.Marks.{AreListedBelow, IsNearAt, IsReachingAt, StandsFor};
 
 use crate::behind::approach;

@@ -3,7 +3,7 @@ ghost use Rattle.std.specs.Prelude.{◌≡◌, ◌<◌, ◌≤◌, ◌+◌, Some
 ghost use Rattle.ground_history.specs.Histories.{Sent};
 ghost use Rattle.ground_history.specs.Ground.{IsGrounded};
 ghost use Rattle.definition_intervals.specs.Findings.{IsFormedCandidate};
-ghost use Rattle.live_verdicts.specs.Changes as changes;
+ghost use Rattle.entry_changes.specs.Changes as changes;
 
 use crate::between::Numbers;
 use definition_intervals::{Candidate, changes_are_formed};

@@ -1,5 +1,5 @@
 use Rattle.std.proofs.Common.{arith, sym, subst, None, refl, ◌∙◌}
-use Rattle.live_verdicts.specs.Changes.{AreUnsureSame}
+use Rattle.entry_changes.specs.Changes.{AreUnsureSame}
 use Rattle.decommutator.proofs.ChangeLemmas.{nothing-came, request-came, kept-came}
 use Rattle.decommutator.proofs.changed.touched_by.Goals as goal
 

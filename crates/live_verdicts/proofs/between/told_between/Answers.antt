@@ -7,7 +7,7 @@ use Rattle.pus_messages.specs.declared.message.Report.{Report}
 use Rattle.ground_history.specs.Histories.{Kept, tag_of}
 use Rattle.opening_sweeps.specs.Requests.{Start}
 use Rattle.opening_sweeps.proofs.GatherLemmas.{is-next, no-kept, no-report, tag-small}
-use Rattle.live_verdicts.specs.Changes.{told_start_below}
+use Rattle.entry_changes.specs.Changes.{told_start_below}
 use Rattle.live_verdicts.proofs.ToldLemmas.{told-end, told-after}
 use Rattle.live_verdicts.proofs.AmongLemmas.{told-more, told-all}
 use Rattle.live_verdicts.proofs.between.told_between.Goals as goal

@@ -1,6 +1,6 @@
 use Rattle.std.proofs.Common.{◌≡◌, ◌++◌, length}
 use Rattle.std.specs.Prelude.{filter_map}
-use Rattle.live_verdicts.specs.Changes.{told_start_below}
+use Rattle.entry_changes.specs.Changes.{told_start_below}
 use Rattle.live_verdicts.specs.Marks as marks
 use Rattle.live_verdicts.specs.Marks.{kept_from}
 use Rattle.live_verdicts.proofs.between.told_between.Given as goal

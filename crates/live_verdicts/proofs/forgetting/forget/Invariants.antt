@@ -1,7 +1,7 @@
 use Rattle.std.proofs.Common.{◌-◌, ◌≤◌, length, take, drop}
 use Rattle.std.specs.List.{All}
 use Rattle.ground_history.specs.Ground.{Ground}
-use Rattle.live_verdicts.specs.Changes.{AreSameBelow, AreUnsureSame}
+use Rattle.entry_changes.specs.Changes.{AreSameBelow, AreUnsureSame}
 use Rattle.live_verdicts.specs.Marks.{IsMark, StandsFor}
 use Rattle.live_verdicts.specs.declared.mark.StructureMark.{StructureMark}
 use Rattle.live_verdicts.proofs.forgetting.forget.Given as goal

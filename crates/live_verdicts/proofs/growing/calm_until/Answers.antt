@@ -2,7 +2,7 @@ use Rattle.std.proofs.Common.{arith, ◌≡◌, ◌∙◌, ◌<◌, ◌≤◌, �
 use Rattle.std.specs.List.{All}
 use Rattle.hk_base.specs.TailoringParts.{TailoringParts}
 use Rattle.definition_intervals.specs.Openings.{Candidate}
-use Rattle.live_verdicts.specs.Changes.{unsures}
+use Rattle.entry_changes.specs.Changes.{unsures}
 use Rattle.live_verdicts.specs.Marks.{IsMarkOf, Leaves, with_calm}
 use Rattle.live_verdicts.proofs.GrowLemmas.{calm-more}
 use Rattle.live_verdicts.proofs.growing.calm_until.Goals as goal

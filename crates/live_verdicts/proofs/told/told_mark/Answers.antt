@@ -4,7 +4,7 @@ use Rattle.std.specs.List.{All}
 use Rattle.hk_base.specs.declared.types.Structure.{Structure}
 use Rattle.definition_intervals.specs.Founds.{IsFormedFound, IsBasisOf}
 use Rattle.opening_sweeps.specs.Requests.{Start, IsFormedStart}
-use Rattle.live_verdicts.specs.Changes as changes
+use Rattle.entry_changes.specs.Changes as changes
 use Rattle.live_verdicts.specs.Marks.{AreAlike, AreKnown, IsFormedMark, found_at, told_between}
 use Rattle.live_verdicts.specs.declared.mark.Mark.{Mark}
 use Rattle.live_verdicts.proofs.AmongLemmas.{told-formed}

@@ -6,7 +6,7 @@ use Rattle.definition_intervals.specs.Openings.{Candidate}
 use Rattle.definition_intervals.specs.Founds.{found_after_all, AreSameFound, IsFormedFound}
 use Rattle.opening_sweeps.specs.Requests.{Start}
 use Rattle.opening_sweeps.proofs.FoldLemmas.{same-refl}
-use Rattle.live_verdicts.specs.Changes as changes
+use Rattle.entry_changes.specs.Changes as changes
 use Rattle.live_verdicts.specs.Marks.{AreKnown, HasSame, first_found}
 use Rattle.live_verdicts.proofs.FindLemmas.{alike-refl, alike-there, told-again, known-added}
 use Rattle.live_verdicts.proofs.told.with_state.Goals as goal

@@ -2,7 +2,7 @@ use Rattle.std.proofs.Common.{◌++◌, List, Option, map, take}
 use Rattle.std.specs.List.{All}
 use Rattle.hk_base.specs.declared.types.Structure.{Structure}
 use Rattle.definition_intervals.specs.Founds.{IsFormedFound}
-use Rattle.live_verdicts.specs.Changes as changes
+use Rattle.entry_changes.specs.Changes as changes
 use Rattle.live_verdicts.specs.Marks.{AreAlike, AreKnown, found_at}
 use Rattle.live_verdicts.proofs.told.with_told.Given as goal
 

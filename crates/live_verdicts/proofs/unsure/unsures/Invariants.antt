@@ -1,5 +1,5 @@
 use Rattle.std.proofs.Common.{◌≡◌}
-use Rattle.live_verdicts.specs.Changes as changes
+use Rattle.entry_changes.specs.Changes as changes
 use Rattle.live_verdicts.proofs.unsure.unsures.Given as goal
 
 abbrev pub invariant-loop-number : goal.invariant-loop-number

@@ -17,7 +17,7 @@ use Rattle.ground_history.specs.Ground.{Ground, with_history}
 use Rattle.ground_history.specs.declared.answer.Outcome.{Outcome}
 use Rattle.definition_intervals.specs.Openings.{Candidate, Opening, is_at_most, candidate, candidates, from_creation, opening, boot_openings, report_opening, reported_structure}
 use Rattle.opening_sweeps.specs.Requests.{told_start}
-use Rattle.live_verdicts.specs.Changes.{with_packet, IsBelow, told_start_below, AreSameBelow}
+use Rattle.entry_changes.specs.Changes.{with_packet, IsBelow, told_start_below, AreSameBelow}
 
 -- what is known with one more request
 abbrev pub with_request : History → Sent → History

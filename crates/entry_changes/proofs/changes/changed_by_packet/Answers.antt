@@ -2,8 +2,8 @@ use Rattle.std.proofs.Common.{arith, ◌≡◌, ◌≤◌, ◌+◌, ◌∙◌, s
 use Rattle.pus_messages.specs.declared.message.Report.{Report}
 use Rattle.ground_history.specs.Ground.{tells_structure}
 use Rattle.ground_history.proofs.SayLemmas.{other-from}
-use Rattle.live_verdicts.proofs.KeptLemmas.{structure-kept, other-kept}
-use Rattle.live_verdicts.proofs.changes.changed_by_packet.Goals as goal
+use Rattle.entry_changes.proofs.KeptLemmas.{structure-kept, other-kept}
+use Rattle.entry_changes.proofs.changes.changed_by_packet.Goals as goal
 
 pub returns-then-tells : goal.returns-then-tells
 returns-then-tells c =

@@ -7,7 +7,7 @@ ghost use Rattle.ground_history.specs.Indexes as indexes;
 ghost use Rattle.pus_messages.specs.declared.message.ReportBody.TheVariants.{Verify};
 ghost use Rattle.ground_history.specs.Ground.{Ground, IsGrounded, with_history, tells_structure};
 ghost use Rattle.ground_history.specs.declared.answer.GotKind.TheVariants as became;
-ghost use Rattle.live_verdicts.specs.Changes.{AreSameBelow, IsLastBefore, is_under, with_packet};
+ghost use Rattle.entry_changes.specs.Changes.{AreSameBelow, IsLastBefore, is_under, with_packet};
 
 use ground_history::{History, KeptPacket, bounds_rise};
 use pus_messages::ReportBody;

@@ -21,9 +21,9 @@ use Rattle.ground_history.specs.declared.answer.Outcome.{Outcome}
 use Rattle.ground_history.specs.declared.answer.Outcome.TheVariants.{Done, Refused, Unknown}
 use Rattle.ground_history.proofs.SayLemmas.{any-insert_kept, verifies-is, IsReport, IsOther, other-passes, or-false, nothing}
 use Rattle.definition_intervals.specs.Openings.{Candidate}
-use Rattle.live_verdicts.specs.Changes.{IsBelow, IsUpTo, AreUnsureSame, tells_acceptance, unsure, unsures, with_packet}
-use Rattle.live_verdicts.proofs.SameLemmas.{with_request, filter_map-same, enumerate-append}
-use Rattle.live_verdicts.proofs.KeptLemmas.{sent-same}
+use Rattle.entry_changes.specs.Changes.{IsBelow, IsUpTo, AreUnsureSame, tells_acceptance, unsure, unsures, with_packet}
+use Rattle.entry_changes.proofs.SameLemmas.{with_request, filter_map-same, enumerate-append}
+use Rattle.entry_changes.proofs.KeptLemmas.{sent-same}
 
 -- the same is known of whether a request is barred, and of what came of its instructions
 record IsToldSame (h later : History) (k : ℕ) : Type 0 where

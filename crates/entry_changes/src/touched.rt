@@ -4,8 +4,8 @@ ghost use Rattle.pus_messages.specs.Messages.{protocol};
 ghost use Rattle.ground_history.specs.Histories.{got_kind, history_with_got, with_sent};
 ghost use Rattle.ground_history.specs.Ground.{Ground, IsGrounded, with_history};
 ghost use Rattle.ground_history.specs.declared.answer.GotKind.TheVariants as became;
-ghost use Rattle.live_verdicts.specs.Changes as changes;
-ghost use Rattle.live_verdicts.specs.Changes.{AreUnsureSame, with_packet};
+ghost use Rattle.entry_changes.specs.Changes as changes;
+ghost use Rattle.entry_changes.specs.Changes.{AreUnsureSame, with_packet};
 
 use ground_history::{History, KeptPacket};
 use pus_messages::ReportBody;

@@ -5,10 +5,10 @@ use Rattle.pus_messages.specs.Messages.{protocol}
 use Rattle.ground_history.specs.Histories.{Sent, newest_tag}
 use Rattle.ground_history.specs.Evidence.{low}
 use Rattle.ground_history.specs.Ground.{Ground}
-use Rattle.live_verdicts.specs.Changes.{AreSameBelow}
-use Rattle.live_verdicts.proofs.SameLemmas.{with_request}
-use Rattle.live_verdicts.proofs.KeptLemmas.{request-sent}
-use Rattle.live_verdicts.proofs.changes.changed_by_sent.Goals as goal
+use Rattle.entry_changes.specs.Changes.{AreSameBelow}
+use Rattle.entry_changes.proofs.SameLemmas.{with_request}
+use Rattle.entry_changes.proofs.KeptLemmas.{request-sent}
+use Rattle.entry_changes.proofs.changes.changed_by_sent.Goals as goal
 
 pub returns : goal.returns
 returns c =

@@ -4,10 +4,10 @@ use Rattle.std.specs.Option.{option_copied}
 use Rattle.pus_messages.specs.Messages.{protocol}
 use Rattle.ground_history.specs.Histories.{Kept, tag_of, history_with_got}
 use Rattle.ground_history.specs.Ground.{Ground, with_history}
-use Rattle.live_verdicts.specs.Changes.{AreUnsureSame, with_packet}
-use Rattle.live_verdicts.proofs.KeptLemmas.{kept-as, kept-found}
-use Rattle.live_verdicts.proofs.TouchLemmas.{first-touches}
-use Rattle.live_verdicts.proofs.touched.touched_by_kept.Goals as goal
+use Rattle.entry_changes.specs.Changes.{AreUnsureSame, with_packet}
+use Rattle.entry_changes.proofs.KeptLemmas.{kept-as, kept-found}
+use Rattle.entry_changes.proofs.TouchLemmas.{first-touches}
+use Rattle.entry_changes.proofs.touched.touched_by_kept.Goals as goal
 
 pub returns-in-Some : goal.returns-in-Some
 returns-in-Some c =

@@ -3,9 +3,9 @@ use Rattle.std.specs.Option.{option_copied}
 use Rattle.pus_messages.specs.Messages.{protocol}
 use Rattle.ground_history.specs.Histories.{Kept, History}
 use Rattle.ground_history.specs.Ground.{Ground, with_history}
-use Rattle.live_verdicts.specs.Changes.{with_packet}
-use Rattle.live_verdicts.proofs.KeptLemmas.{kept-as, kept-found, IsKeptAs}
-use Rattle.live_verdicts.proofs.changes.changed_by_kept.Goals as goal
+use Rattle.entry_changes.specs.Changes.{with_packet}
+use Rattle.entry_changes.proofs.KeptLemmas.{kept-as, kept-found, IsKeptAs}
+use Rattle.entry_changes.proofs.changes.changed_by_kept.Goals as goal
 
 pub returns-in-Some : goal.returns-in-Some
 returns-in-Some c =

@@ -1,6 +1,6 @@
 use Rattle.std.proofs.Common.{arith, ◌<◌, ◌∙◌, sym, length}
-use Rattle.live_verdicts.proofs.KeptLemmas.{verification-kept, first-kept}
-use Rattle.live_verdicts.proofs.changes.changed_by_verification.Goals as goal
+use Rattle.entry_changes.proofs.KeptLemmas.{verification-kept, first-kept}
+use Rattle.entry_changes.proofs.changes.changed_by_verification.Goals as goal
 
 pub returns-in-Some-last_before : goal.returns-in-Some-last_before
 returns-in-Some-last_before c =

@@ -24,8 +24,8 @@ use Rattle.ground_history.specs.declared.answer.Outcome.TheVariants.{Done, Refus
 use Rattle.ground_history.proofs.KeptLemmas.{tags, greatest-insert_kept}
 use Rattle.ground_history.proofs.SayLemmas.{lower, tag_if, least-step, least-insert_kept, any-insert_kept, IsReport, verifies-is, comes-before-is, comes-after-is, IsOther, other-passes, or-false, nothing}
 use Rattle.definition_intervals.specs.Openings.{reported_structure}
-use Rattle.live_verdicts.specs.Changes.{IsBelow, AreSameBelow, IsLastBefore, is_under, with_packet}
-use Rattle.live_verdicts.proofs.SameLemmas.{IsSame, IsSameTo, with_request, IsUnseen, same-kept, same-sent}
+use Rattle.entry_changes.specs.Changes.{IsBelow, AreSameBelow, IsLastBefore, is_under, with_packet}
+use Rattle.entry_changes.proofs.SameLemmas.{IsSame, IsSameTo, with_request, IsUnseen, same-kept, same-sent}
 
 -- ---- what is known of a request after one more kept packet
 

@@ -3,9 +3,9 @@ use Rattle.std.specs.Prelude.{unwrap_or}
 use Rattle.pus_messages.specs.declared.message.Report.{Report}
 use Rattle.ground_history.specs.Ground.{with_history}
 use Rattle.ground_history.proofs.SayLemmas.{other-from}
-use Rattle.live_verdicts.specs.Changes.{AreUnsureSame, with_packet}
-use Rattle.live_verdicts.proofs.TouchLemmas.{other-touches, acceptance-touches, verification-touches}
-use Rattle.live_verdicts.proofs.touched.touched_by_packet.Goals as goal
+use Rattle.entry_changes.specs.Changes.{AreUnsureSame, with_packet}
+use Rattle.entry_changes.proofs.TouchLemmas.{other-touches, acceptance-touches, verification-touches}
+use Rattle.entry_changes.proofs.touched.touched_by_packet.Goals as goal
 
 pub returns-in_default : goal.returns-in_default
 returns-in_default c =

@@ -1,7 +1,7 @@
 use Rattle.std.proofs.Common.{◌-◌, ◌≡◌, ◌<◌, ◌≤◌, IfSome, true}
 use Rattle.ground_history.specs.Evidence.{high}
-use Rattle.live_verdicts.specs.Changes.{is_under}
-use Rattle.live_verdicts.proofs.changes.last_ended.Given as goal
+use Rattle.entry_changes.specs.Changes.{is_under}
+use Rattle.entry_changes.proofs.changes.last_ended.Given as goal
 
 abbrev pub invariant-loop-from : goal.invariant-loop-from
 invariant-loop-from l = (l.to ≤ l.number) × IfSome l.last (λ last. (last < l.number) × (is_under (high l.history.history last) l.tag ≡ true))

@@ -1,6 +1,6 @@
 use Rattle.std.proofs.Common.{sym, subst, None, ◌∙◌}
 use Rattle.entry_changes.specs.Changes.{AreSameBelow}
-use Rattle.live_verdicts.proofs.SameLemmas.{same-all}
+use Rattle.entry_changes.proofs.SameLemmas.{same-all}
 use Rattle.decommutator.proofs.ChangeLemmas.{nothing-came, request-came, kept-came}
 use Rattle.decommutator.proofs.changed.changed_from.Goals as goal
 

@@ -1,11 +1,12 @@
 -- Marks that hold of more requests.
-use Rattle.std.proofs.Common.{arith, ◌≡◌, ℕ, zero, suc, ◌+◌, ◌<◌, ◌≤◌, refl, sym, ◌∙◌, ap, subst, List, [], ◌∷◌, ◌++◌, length, map, take, drop, get_or, Bool, true, false, inl, inr, ◌⊎◌, Option, Some, None, IfSome, append_assoc, append-nil}
+use Rattle.std.proofs.Common.{arith, IfOk, Result, Ok, Err, filter_map, ◌≡◌, ℕ, zero, suc, ◌+◌, ◌<◌, ◌≤◌, refl, sym, ◌∙◌, ap, subst, List, [], ◌∷◌, ◌++◌, length, map, take, drop, get_or, Bool, true, false, inl, inr, ◌⊎◌, Option, Some, None, IfSome, append_assoc, append-nil}
 use Rattle.std.specs.Prelude.{slice_get, option_map, option_and_then, not, if◌then◌else◌}
 use Rattle.std.specs.List.{All, AllByRecursion, enumerate_from}
 use Rattle.std.proofs.lemmas.List.{take_more}
 use Rattle.std.proofs.lemmas.List.Elements.{All-push, All-from_recursion, recursion_from_All}
 use Rattle.hk_base.specs.TailoringParts.{TailoringParts}
 use Rattle.hk_base.specs.declared.types.Key.{Key}
+use Rattle.hk_base.specs.declared.types.Memory.{Memory}
 use Rattle.hk_base.specs.declared.types.Structure.{Structure}
 use Rattle.hk_base.proofs.Membership.{some_value, IsIn, IsIn-filter_map, AllByRecursion-IsIn, IsIn-AllByRecursion}
 use Rattle.st03_grammar.specs.Instructions.{StructureChange}
@@ -24,10 +25,10 @@ use Rattle.opening_sweeps.specs.Requests.{Start}
 use Rattle.opening_sweeps.proofs.FoldLemmas.{same-refl, same-sym, same-trans, after_all-same, after_all-append, first_all-append}
 use Rattle.opening_sweeps.proofs.BasisLemmas.{in-map, map-in}
 use Rattle.entry_changes.specs.Changes.{unsure, unsures}
-use Rattle.live_verdicts.specs.Marks.{found_at, first_found, first_at, AreAlike, AreFound, AreKnown, HasSame, IsFormedMark, IsMarkOf, Leaves, among, passed, with_calm}
+use Rattle.live_verdicts.specs.Marks.{found_at, first_found, first_at, AreAlike, AreFound, AreKnown, HasSame, IsFormedMark, IsMarkOf, HasAlike, IsAlike, Leaves, LeavesFinds, among, passed, with_calm}
 use Rattle.live_verdicts.specs.declared.mark.Mark.{Mark}
 use Rattle.live_verdicts.proofs.AmongLemmas.{next-numbered}
-use Rattle.live_verdicts.proofs.SplitLemmas.{between-append, taken-in, dropped-in}
+use Rattle.live_verdicts.proofs.SplitLemmas.{between-append, nothing-between, taken-in, dropped-in}
 use Rattle.live_verdicts.proofs.FindLemmas.{has-in, in-has, alike-covered, covered-alike, alike-trans, alike-after}
 use Rattle.live_verdicts.proofs.MarkLemmas.{map-same, map-twice}
 
@@ -90,6 +91,46 @@ unsures-with h key first n c before after le l told b a = a ∙ (ap (λ xs. xs +
 pub unsures-without : (h : History) (key : Key) (first n : ℕ) (before : List Candidate) → first ≤ n → n < length h.requests → IsUnsureAt h key n None → before ≡ unsures h key first n
     → before ≡ unsures h key first (n + 1)
 unsures-without h key first n before le l told b = b ∙ sym (next-numbered (unsure h key) h.requests first n None le l told ∙ append-nil (unsures h key first n))
+
+pub one-unsure : (h : History) (key : Key) (n : ℕ) (c : Candidate) → n < length h.requests → IsUnsureAt h key n (Some c) → unsures h key n (n + 1) ≡ c ∷ []
+one-unsure h key n c l told = sym (unsures-with h key n n c [] (c ∷ []) (omega arith) l told (sym (ap (λ xs. filter_map (unsure h key) xs) (nothing-between h.requests n n (omega arith)))) refl)
+
+pub none-unsure : (h : History) (key : Key) (n : ℕ) → n < length h.requests → IsUnsureAt h key n None → unsures h key n (n + 1) ≡ []
+none-unsure h key n l told = sym (unsures-without h key n n [] (omega arith) l told (sym (ap (λ xs. filter_map (unsure h key) xs) (nothing-between h.requests n n (omega arith)))))
+
+-- ---- requests with the same change
+
+-- such a request is the other but for its number
+change-after : (t : TailoringParts) (a b : Candidate) (f : Option (List (Option Structure))) → IsAlike a b → found_after t a f ≡ found_after t b f
+change-after t a b f alike =
+    ap (λ change. found_after t (record { number = a.number; change = change; certain = a.certain; outcome = a.outcome }) f) alike.change
+    ∙ (ap (λ certain. found_after t (record { number = a.number; change = b.change; certain = certain; outcome = a.outcome }) f) alike.certain
+    ∙ ap (λ outcome. found_after t (record { number = a.number; change = b.change; certain = b.certain; outcome = outcome }) f) alike.outcome)
+
+pub has-item-alike : (ds : List Candidate) (c d : Candidate) (i : ℕ) → i < length ds → d ≡ get_or ds i d → IsAlike d c → HasAlike ds c
+has-item-alike [] c d i l is alike = absurd (omega (arith, l))
+has-item-alike (x ∷ ds) c d zero l is alike = inl (subst (λ y. IsAlike y c) is alike)
+has-item-alike (x ∷ ds) c d (suc i) l is alike = inr (has-item-alike ds c d i (omega (arith, l)) is alike)
+
+pub alike-leaves : (t : TailoringParts) (m : Mark) (ds : List Candidate) (c : Candidate) → HasAlike ds c → All (λ d. LeavesFinds t d m) ds → LeavesFinds t c m
+alike-leaves t m [] c has all = absurd has
+alike-leaves t m (d ∷ ds) c (inl alike) all =
+    λ k e l. subst (λ g. AreSameFound (get_or m.finds.items k e) g) (change-after t d c (get_or m.finds.items k e) alike) (all 0 d (omega arith) k e l)
+alike-leaves t m (d ∷ ds) c (inr has) all = alike-leaves t m ds c has (λ k e l. all (suc k) e (omega (arith, l)))
+
+pub all-one : {X : Type 0} (P : X → Type 0) (xs : List X) (x : X) → xs ≡ x ∷ [] → P x → All P xs
+all-one P xs x is p = subst (λ ys. All P ys) (sym is) (All-from_recursion P (x ∷ []) (p, tt))
+
+pub one-all : {X : Type 0} (P : X → Type 0) (xs : List X) (x : X) → xs ≡ x ∷ [] → All P xs → P x
+one-all P xs x is all = (recursion_from_All P (x ∷ []) (subst (λ ys. All P ys) is all)).0
+
+pub all-none : {X : Type 0} (P : X → Type 0) (xs : List X) → xs ≡ [] → All P xs
+all-none P xs is = subst (λ ys. All P ys) (sym is) (All-from_recursion P [] tt)
+
+pub if-passes : (t : TailoringParts) (m : Mark) (us : List Candidate) (c : Candidate) → us ≡ c ∷ [] → (result : Result Bool Memory) → IfOk result (λ yes. yes ≡ true → Leaves t c m)
+    → IfOk result (λ yes. yes ≡ true → All (λ r. Leaves t r m) us)
+if-passes t m us c is (Ok b) leaves = λ e. all-one (λ r. Leaves t r m) us c is (leaves e)
+if-passes t m us c is (Err e) leaves = tt
 
 -- ---- one more request
 

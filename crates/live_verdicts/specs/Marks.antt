@@ -183,9 +183,24 @@ pub record IsGrown (m later : Mark) : Type 0 where
   pub listed : later.listed ≡ m.calm + 1
   pub calm : later.calm ≡ m.calm + 1
 
+-- a request leaves what a mark found as it is
+abbrev pub LeavesFinds : TailoringParts → Candidate → Mark → Type 0
+LeavesFinds t c m = All (λ f. AreSameFound f (found_after t c f)) m.finds.items
+
+-- two requests have the same change, of which the same is known
+pub record IsAlike (a b : Candidate) : Type 0 where
+  pub change : a.change ≡ b.change
+  pub certain : a.certain ≡ b.certain
+  pub outcome : a.outcome ≡ b.outcome
+
+-- some request has the same change
+abbrev pub HasAlike : List Candidate → Candidate → Type 0
+HasAlike [] c = ⊥
+HasAlike (d ∷ ds) c = IsAlike d c ⊎ HasAlike ds c
+
 -- a request leaves what a mark holds as it is
 pub record Leaves (t : TailoringParts) (c : Candidate) (m : Mark) : Type 0 where
-  pub finds : All (λ f. AreSameFound f (found_after t c f)) m.finds.items
+  pub finds : LeavesFinds t c m
   pub first : first_after c m.first ≡ m.first
   pub open_change : first_after c m.open_change ≡ m.open_change
 

@@ -10,6 +10,7 @@ mod forgetting;
 mod growing;
 mod held;
 mod later;
+mod leaving;
 mod live;
 mod mark;
 mod reaching;

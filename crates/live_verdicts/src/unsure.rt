@@ -56,7 +56,7 @@ pub(crate) fn next_unsure<'a>(
 }
 
 /// The request with this number, if it may have changed the structure.
-fn unsure(history: &History, key: Key, number: u64) -> Option<Candidate<'_>>
+pub(crate) fn unsure(history: &History, key: Key, number: u64) -> Option<Candidate<'_>>
     requires grounded { IsGrounded history.now }
     requires sent { number < length history.now.history.requests }
     ensures { (sent : Sent) → slice_get history.now.history.requests number ≡ Some sent

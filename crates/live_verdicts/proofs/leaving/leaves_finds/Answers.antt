@@ -3,7 +3,7 @@ use Rattle.hk_base.specs.declared.types.Structure.{Structure}
 use Rattle.definition_intervals.specs.Founds.{AreSameFound, found_after}
 use Rattle.live_verdicts.proofs.FindLemmas.{same-after}
 use Rattle.live_verdicts.proofs.GrowLemmas.{all-more, all-taken}
-use Rattle.live_verdicts.proofs.growing.leaves_finds.Goals as goal
+use Rattle.live_verdicts.proofs.leaving.leaves_finds.Goals as goal
 
 pub loop-found-preserved : goal.loop-found-preserved
 loop-found-preserved c =

@@ -84,7 +84,7 @@ impl Tailoring {
     }
 
     /// The number of parameters.
-    pub(crate) fn param_count(&self) -> u32
+    pub fn param_count(&self) -> u32
         ensures count { result ≡ length self.now.params }
         ensures fit { IsFit self.now }
     {

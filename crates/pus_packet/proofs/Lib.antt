@@ -1,7 +1,7 @@
 mod Polynomials
 mod Registers
 mod Table
-mod Lengths
+pub mod Lengths
 mod Parts
 mod Checksums
 mod Fronts

@@ -286,17 +286,19 @@ openings-formed g key tag grounded boot =
         let r = IsIn-filter_map (report_opening g.history key tag) o g.history.kept i in
         report-formed g key tag r.0 o grounded (AllByRecursion-IsIn (IsGrammarKept g.tailoring) r.0 g.history.kept grounded.reports r.1) r.2
 
--- a step of the loop over kept packets
-pub reports-step : (h : History) (key : Key) (tag n : ℕ) (front : List Opening) (k : Kept) (o : Option Opening) → slice_get h.kept n ≡ Some k → o ≡ report_opening h key tag k
-    → front ++ filter_map (report_opening h key tag) (take (n + 1) h.kept) ≡ (front ++ filter_map (report_opening h key tag) (take n h.kept)) ++ option_to_list o
-reports-step h key tag n front k o e is =
-    ap (λ xs. front ++ filter_map (report_opening h key tag) xs) (take-more_at h.kept n k e)
-    ∙ (ap (λ l. front ++ l) (filter_map-append (report_opening h key tag) (take n h.kept) (k ∷ []) ∙ (ap (λ (r : Option Opening). earlier ++ cons_option r []) (sym is) ∙ ap (λ l. earlier ++ l) (one o)))
-    ∙ sym (append_assoc front earlier (option_to_list o)))
+-- a packet that tells of no structure opens nothing
+pub no-opening : (h : History) (key : Key) (tag : ℕ) (k : Kept) → tells_structure k.report.body ≡ false → report_opening h key tag k ≡ None
+no-opening h key tag k e =
+    ap (λ s. if nat_lt (tag_of k) tag then option_map (λ x. opening h key tag (tag_of k) (Some x)) s else None) (silent k.report.body e) ∙ neither (nat_lt (tag_of k) tag)
   where
-    earlier : List Opening
-    earlier = filter_map (report_opening h key tag) (take n h.kept)
+    neither : (b : Bool) → ◌≡◌ {A = Option Opening} (if b then None else None) None
+    neither true = refl
+    neither false = refl
 
-    one : (r : Option Opening) → cons_option r [] ≡ option_to_list r
-    one None = refl
-    one (Some c) = refl
+    silent : (body : ReportBody) → tells_structure body ≡ false → reported_structure key body ≡ None
+    silent (tell.Verify v) e = refl
+    silent (tell.Stat r) e = refl
+    silent (tell.Par r) e = refl
+    silent (tell.Hk (hk.Structure named s)) e = absurd (let no : true ≡ false → ⊥ = λ p. cc in no e)
+    silent (tell.Hk (hk.Values named payload)) e = refl
+    silent (tell.Hk (hk.Periodic kind rows)) e = refl

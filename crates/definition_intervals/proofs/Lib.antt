@@ -13,6 +13,7 @@ pub mod ReachLemmas
 pub mod CommonLemmas
 pub mod NewestLemmas
 pub mod AgreementLemmas
+pub mod KeptLemmas
 pub mod GatherLemmas
 pub mod VerdictLemmas
 pub mod BasisLemmas

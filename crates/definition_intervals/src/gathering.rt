@@ -11,7 +11,7 @@ ghost use Rattle.definition_intervals.specs.Findings.{IsFormedOpening, with_requ
 
 use crate::opening::{Candidate, Opening};
 use ground_history::{History, Outcome};
-use hk_base::{Items, Key, Memory, Structure};
+use hk_base::{Items, Key, Memory, Structure, greatest_tag};
 use pus_messages::{Report, ReportBody, changes_on};
 use st03_grammar::{Change, Report03};
 use std::alloc::Global;
@@ -27,14 +27,18 @@ pub(crate) fn openings<'a>(
     ensures openings { IfOk result (λ found. found.items ≡ openings.openings history.now.tailoring history.now.history key tag) }
     ensures formed { IfOk result (λ found. All (IsFormedOpening history.now.tailoring) found.items) }
 {
+    let _most = greatest_tag(history.tailoring());
+    let last = history.newest_told();
     let mut openings = boot_openings(alloc, history, key, tag)?;
-    for number in 0..history.kept() {
-        let Some(report) = history.report(number) else {
-            unreachable!();
+    let mut from = 0;
+    while from <= last {
+        let Some(report) = history.report_from(from) else {
+            return Ok(openings);
         };
         if let Some(opening) = report_opening(alloc, history, key, tag, report)? {
             openings.push(opening)?;
         }
+        from = report.header.tag + 1;
     }
     Ok(openings)
 }

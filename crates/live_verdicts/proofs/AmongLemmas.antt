@@ -14,7 +14,6 @@ use Rattle.definition_intervals.specs.Openings.{Candidate, candidate}
 use Rattle.definition_intervals.specs.Findings.{IsFormedCandidate}
 use Rattle.definition_intervals.proofs.GatherLemmas.{IsCandidateAt, IsGroundedRequest, candidate-formed, numbered-IsIn, member-at, take-more_at}
 use Rattle.opening_sweeps.specs.Requests.{Start, told_start, told_starts, IsFormedStart}
-use Rattle.opening_sweeps.proofs.GatherLemmas.{IsNext}
 use Rattle.entry_changes.specs.Changes.{told_start_below}
 use Rattle.live_verdicts.specs.Marks.{among, told_between}
 use Rattle.live_verdicts.proofs.SplitLemmas.{taken-in, dropped-in}
@@ -78,20 +77,7 @@ among-formed g key from tag first end grounded = All-from_recursion (IsFormedCan
         candidate-formed g.tailoring h key from tag r.0.0 r.0.1 c
         (AllByRecursion-IsIn (λ s. IfSome s.request (IsGroundedRequest g.tailoring)) r.0.1 h.requests grounded.requests (numbered-IsIn 0 r.0 h.requests j)) r.2
 
--- one more state that was told
-pub told-more : (key : Key) (tag : ℕ) (ks : List Kept) (from : ℕ) (r : Report) (starts after all : List Start) (o : Option Start) → (n : IsNext ks from r) → o ≡ told_start_below key tag n.kept
-    → after ≡ starts ++ option_to_list o → starts ++ filter_map (told_start_below key tag) (from_tag from ks) ≡ all
-    → after ++ filter_map (told_start_below key tag) (from_tag (r.header.tag + 1) ks) ≡ all
-told-more key tag ks from r starts after all o n is e h =
-    let rest = filter_map (told_start_below key tag) (from_tag (r.header.tag + 1) ks) in
-    ap (λ xs. xs ++ rest) e
-    ∙ (append_assoc starts (option_to_list o) rest
-    ∙ (ap (λ xs. starts ++ xs) (one o ∙ (ap (λ (p : Option Start). cons_option p rest) is ∙ ap (λ (xs : List Kept). filter_map (told_start_below key tag) xs) (sym n.left))) ∙ h))
-  where
-    one : (p : Option Start) → option_to_list p ++ filter_map (told_start_below key tag) (from_tag (r.header.tag + 1) ks) ≡ cons_option p (filter_map (told_start_below key tag) (from_tag (r.header.tag + 1) ks))
-    one None = refl
-    one (Some s) = refl
-
+-- nothing more is told
 pub told-all : (starts rest all : List Start) → rest ≡ [] → starts ++ rest ≡ all → starts ≡ all
 told-all starts rest all e h = sym (append-nil starts) ∙ (ap (λ xs. starts ++ xs) (sym e) ∙ h)
 

@@ -8,7 +8,8 @@ use Rattle.hk_base.proofs.Membership.{IsIn, IsIn-filter, AllByRecursion-IsIn}
 use Rattle.ground_history.specs.Histories.{Kept, History, tag_of}
 use Rattle.ground_history.specs.Ground.{HaveRisingTags, newest_told, tells_structure}
 use Rattle.opening_sweeps.specs.Requests.{Start, told_start}
-use Rattle.opening_sweeps.proofs.GatherLemmas.{all-kept, untold, newest-above}
+use Rattle.definition_intervals.proofs.KeptLemmas.{all-kept, newest-above}
+use Rattle.opening_sweeps.proofs.GatherLemmas.{untold}
 use Rattle.entry_changes.specs.Changes.{told_start_below, told_below}
 use Rattle.live_verdicts.specs.Marks.{told_between}
 use Rattle.entry_changes.proofs.SameLemmas.{filter_map-none}

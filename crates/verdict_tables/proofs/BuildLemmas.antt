@@ -14,7 +14,7 @@ use Rattle.definition_intervals.specs.declared.answer.Basis.{Basis}
 use Rattle.verdict_tables.specs.Places.{is_among, places}
 use Rattle.verdict_tables.specs.Collecting.{HasTable, IsTable, collected_places}
 use Rattle.verdict_tables.specs.Tables.{RangeParts, IsRanges}
-use Rattle.verdict_tables.specs.Mending.{AreRangesAt}
+use Rattle.verdict_tables.specs.Collecting.{AreRangesAt}
 use Rattle.verdict_tables.proofs.MemberLemmas.{among-IsIn, among-same}
 use Rattle.verdict_tables.proofs.NamedLemmas.{collected-IsIn, places-IsIn}
 use Rattle.verdict_tables.proofs.RisingLemmas.{Rises, rises}

@@ -19,7 +19,7 @@ use Rattle.pus_messages.specs.declared.message.ReportBody.TheVariants as tell
 use Rattle.ground_history.specs.Histories.{Sent, Kept, History, tag_of}
 use Rattle.ground_history.specs.Ground.{HaveRisingTags, newest_told, tells_structure}
 use Rattle.definition_intervals.specs.Openings.{reported_structure}
-use Rattle.opening_sweeps.proofs.GatherLemmas.{newest-above}
+use Rattle.definition_intervals.proofs.KeptLemmas.{newest-above}
 use Rattle.verdict_tables.specs.Places.{report_places, bound_places, changed_keys}
 use Rattle.verdict_tables.specs.Collecting.{tags_of, Collects, tags_if, named_places, sent_places}
 

@@ -88,32 +88,3 @@ held-same {X = X} P old new same all q = subst (λ (es : List (Key × X)). IfSom
 pub push-some : (tags : List ℕ) (tag : ℕ) (longer : List ℕ) → longer ≡ tags ++ tag ∷ [] → longer ≡ [] → ⊥
 push-some [] tag longer e f = absurd (some-tags tag [] (sym e ∙ f))
 push-some (t ∷ tags) tag longer e f = absurd (some-tags t (tags ++ tag ∷ []) (sym e ∙ f))
-
--- ---- what is taken away again
-
-without-finds : {X : Type 0} (C : Key → Key → Ordering) → FindsKeys C → (es : List (Key × X)) (key : Key) → remove_entry (is_at (C key)) es ≡ without key es
-without-finds C finds [] key = refl
-without-finds C finds (e ∷ es) key =
-    ap (λ b. cond b es (e ∷ remove_entry (is_at (C key)) es)) (finds key e.0) ∙ ap (λ l. cond (key_eq key e.0) es (e ∷ l)) (without-finds C finds es key)
-
-pub held-removed : {X : Type 0} (C : Key → Key → Ordering) → FindsKeys C → (old new : List (Key × X)) (key : Key) → new ≡ remove_entry (is_at (C key)) old → new ≡ without key old
-held-removed C finds old new key e = e ∙ without-finds C finds old key
-
--- a structure that had nothing, and was given something
-inserted-without : {X : Type 0} (C : Key → Key → Ordering) → FindsKeys C → (es : List (Key × X)) (key : Key) (value : X) → held_for es key ≡ None → without key (insert_entry C es key value) ≡ es
-inserted-without C finds [] key value none = ap (λ b. cond b [] ((key, value) ∷ [])) (key-itself key)
-inserted-without {X = X} C finds (e ∷ es) key value none = go (C key e.0) refl (key_eq key e.0) refl none (inserted-without C finds es key value)
-  where
-    some_none : Some e.1 ≡ None → ⊥
-    some_none p = cc
-
-    go : (o : Ordering) → C key e.0 ≡ o → (b : Bool) → key_eq key e.0 ≡ b → (if b then Some e.1 else held_for es key) ≡ None
-        → (held_for es key ≡ None → without key (insert_entry C es key value) ≡ es)
-        → without key (match_ordering o ((key, value) ∷ e ∷ es) ((e.0, value) ∷ es) (e ∷ insert_entry C es key value)) ≡ e ∷ es
-    go o p true q n later = absurd (some_none n)
-    go Less p false q n later = ap (λ b. cond b (e ∷ es) ((key, value) ∷ without key (e ∷ es))) (key-itself key)
-    go Equal p false q n later = absurd (both_ways true (sym (ap (λ (x : Ordering). is_eq x) p) ∙ (finds key e.0 ∙ q)) refl)
-    go Greater p false q n later = ap (λ b. cond b (insert_entry C es key value) (e ∷ without key (insert_entry C es key value))) q ∙ ap (λ l. e ∷ l) (later n)
-
-pub held-back : {X : Type 0} (C : Key → Key → Ordering) → FindsKeys C → (old new : List (Key × X)) (key : Key) (value : X) → new ≡ insert_entry C old key value → held_for old key ≡ None → without key new ≡ old
-held-back {X = X} C finds old new key value e none = ap (λ (l : List (Key × X)). without key l) e ∙ inserted-without C finds old key value none

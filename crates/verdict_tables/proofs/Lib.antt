@@ -1,7 +1,6 @@
 pub mod SearchLemmas
 pub mod RisingLemmas
 pub mod KeyLemmas
-pub mod BasesLemmas
 pub mod MemberLemmas
 pub mod CountLemmas
 pub mod CollectLemmas
@@ -10,11 +9,3 @@ pub mod KeyOrder
 pub mod OpeningLemmas
 pub mod NamedLemmas
 pub mod TableLemmas
-pub mod SameLemmas
-pub mod ChangedLemmas
-pub mod EntryLemmas
-pub mod KeptLemmas
-pub mod RenewLemmas
-pub mod SameValues
-pub mod TouchLemmas
-pub mod PlaceLemmas

@@ -1,14 +1,15 @@
 -- What is held for each structure, and how the places of all are collected.
-use Rattle.std.specs.Prelude.{◌≡◌, ◌≢◌, ℕ, List, [], ◌++◌, flat_map, Option, MatchOption, unwrap_or, if◌then◌else◌}
+use Rattle.std.specs.Prelude.{◌≡◌, ◌≢◌, ℕ, List, [], ◌∷◌, ◌++◌, flat_map, Option, MatchOption, unwrap_or, if◌then◌else◌}
 use Rattle.std.specs.Option.{option_map_or}
 use Rattle.std.specs.List.{All, enumerate_from}
-use Rattle.std.specs.Map.{lookup, remove_entry}
+use Rattle.std.specs.List.Sorted.{IsStrictlyIncreasing}
+use Rattle.std.specs.Map.{lookup}
 use Rattle.hk_base.specs.Parameters.{key_eq}
 use Rattle.hk_base.specs.declared.types.Key.{Key}
 use Rattle.ground_history.specs.Histories.{Sent, History}
 use Rattle.ground_history.specs.Ground.{Ground}
 use Rattle.definition_intervals.specs.Bases.{AreBases, IsFormedBasis}
-use Rattle.verdict_tables.specs.Places.{report_places, bound_places, changed_keys, places, AreFirsts}
+use Rattle.verdict_tables.specs.Places.{report_places, bound_places, changed_keys, places, is_among, AreFirsts}
 use Rattle.verdict_tables.specs.Tables.{RangeParts}
 
 -- what is held for a structure
@@ -18,10 +19,6 @@ held_for held key = lookup (key_eq key) held
 -- what is held for one structure is now this, and for each other one what it was
 abbrev pub IsHeld : {X : Type 0} → Key → Option X → List (Key × X) → List (Key × X) → Type 0
 IsHeld key value old new = (other : Key) → held_for new other ≡ (if key_eq key other then value else held_for old other)
-
--- what is held without a structure
-abbrev pub without : {X : Type 0} → Key → List (Key × X) → List (Key × X)
-without key held = remove_entry (key_eq key) held
 
 -- the tags that were collected for a structure
 abbrev pub tags_of : List (Key × List ℕ) → Key → List ℕ
@@ -46,6 +43,13 @@ sent_places h key numbered = option_map_or (λ r. named_places (bound_places h n
 -- the tags that are collected for a structure: its places, some of them twice
 abbrev pub collected_places : History → Key → List ℕ
 collected_places h key = flat_map (report_places key) h.kept ++ flat_map (sent_places h key) (enumerate_from 0 h.requests)
+
+-- ranges begin at 0 and at some tags, rising, each with the basis there
+pub record AreRangesAt (g : Ground) (key : Key) (tags : List ℕ) (ranges : RangeParts) : Type 0 where
+  pub rising : IsStrictlyIncreasing ranges.firsts
+  pub members : (tag : ℕ) → is_among tag ranges.firsts ≡ is_among tag (0 ∷ tags)
+  pub bases : AreBases g.tailoring g.history key ranges.firsts ranges.bases
+  pub formed : All (IsFormedBasis g.tailoring) ranges.bases
 
 -- the ranges of a structure that has places: their first tags, and the basis at each
 pub record IsTable (g : Ground) (key : Key) (ranges : RangeParts) : Type 0 where

@@ -4,8 +4,7 @@ ghost use Rattle.std.specs.List.Sorted.{IsStrictlyIncreasing};
 ghost use Rattle.hk_base.specs.declared.types.Key.{Key};
 ghost use Rattle.ground_history.specs.Ground.{IsGrounded};
 ghost use Rattle.verdict_tables.specs.Places.{is_among, places};
-ghost use Rattle.verdict_tables.specs.Collecting.{IsTable, HasTable, collected_places, held_for};
-ghost use Rattle.verdict_tables.specs.Mending.{AreRangesAt};
+ghost use Rattle.verdict_tables.specs.Collecting.{AreRangesAt, IsTable, HasTable, collected_places, held_for};
 
 use crate::collecting::collected;
 use crate::ranges::Ranges;
@@ -47,12 +46,7 @@ fn ranges_from(
 }
 
 /// The ranges of a structure that begin at 0 and at these tags.
-pub(crate) fn ranges_at(
-    alloc: Global,
-    history: &History,
-    key: Key,
-    tags: Items<u64>,
-) -> Result<Ranges, Memory>
+fn ranges_at(alloc: Global, history: &History, key: Key, tags: Items<u64>) -> Result<Ranges, Memory>
     ensures { IfOk result (AreRangesAt history.now key tags) }
 {
     let firsts = firsts_from(tags)?;

@@ -48,7 +48,7 @@ fn add_reports(history: &History, places: &mut Places) -> Result<(), Memory>
 }
 
 /// The next tag. No packet has the greatest number of 64 bits as its tag.
-pub(crate) fn tag_after(tag: u64) -> Result<u64, Memory>
+fn tag_after(tag: u64) -> Result<u64, Memory>
     ensures { IfOk result (λ next. next ≡ tag + 1) }
 {
     tag.checked_add(1).ok_or(Memory)

@@ -5,17 +5,12 @@ mod building;
 mod collecting;
 mod keys;
 mod laws;
-mod mending;
 mod places;
-mod placing;
 mod ranges;
-mod renewing;
 mod start;
 mod steps;
 mod structures;
 mod tables;
-mod tailorings;
-mod touching;
 
 pub use laws::openings_stay;
 pub use ranges::Ranges;

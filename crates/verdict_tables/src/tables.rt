@@ -23,11 +23,11 @@ use std::sync::ledger::Ledger;
 /// What verdicts on parameter reports rest on, by ranges of tags for each structure.
 #[derive(Drop)]
 pub struct Tables {
-    pub(crate) alloc: Global,
+    alloc: Global,
     /// None before they stand for a history.
-    pub(crate) tailoring: Option<Tailoring>,
-    pub(crate) known: bool,
-    pub(crate) structures: Structures,
+    tailoring: Option<Tailoring>,
+    known: bool,
+    structures: Structures,
 }
 
 impl Model for Tables {

@@ -29,16 +29,6 @@ struct Walk {
     clock: u32,
     /// Whether most requests append to one structure, and none is verified.
     appending: bool,
-    news: News,
-}
-
-/// What the last entry was.
-#[derive(Clone, Copy, Drop)]
-enum News {
-    Nothing,
-    Sent,
-    /// A packet that was kept, with its tag.
-    Kept(u64),
 }
 
 /// How many verdicts of each kind came, and how many of them differed between the two calls.
@@ -93,7 +83,6 @@ fn send(
     packet.extend_from_slice(&[0x2f, 3, subtype, 0, 1])?;
     packet.extend_from_slice(body)?;
     walk.sent = walk.sent.saturating_add(1);
-    walk.news = News::Sent;
     sent(history, &packet)
 }
 
@@ -127,19 +116,17 @@ fn receive(
     packet.extend_from_slice(&[0x20, service, subtype, 0, 0, 0, 1, 0, 0])?;
     packet.extend_from_slice(&tag.to_be_bytes())?;
     packet.extend_from_slice(body)?;
-    walk.news = got(history, &packet)?;
-    Ok(())
+    got(history, &packet)
 }
 
 /// Takes a packet that is a readable report.
-fn got(history: &mut History, packet: &[u8]) -> Result<News, Memory> {
+fn got(history: &mut History, packet: &[u8]) -> Result<(), Memory> {
     if packet.len() > 1_000 {
         return Err(Memory);
     }
     match history.got(packet)? {
         GotKind::Foreign(_) | GotKind::Skipped(_, _) | GotKind::Unread => Err(Memory),
-        GotKind::Kept(tag) => Ok(News::Kept(tag)),
-        _ => Ok(News::Nothing),
+        _ => Ok(()),
     }
 }
 
@@ -253,7 +240,6 @@ fn receive_values(alloc: Global, history: &mut History, walk: &mut Walk) -> Resu
 
 /// One more entry.
 fn step(alloc: Global, history: &mut History, walk: &mut Walk) -> Result<(), Memory> {
-    walk.news = News::Nothing;
     match roll(walk) % 10 {
         0..=3 => send_some(alloc, history, walk),
         4..=7 if walk.appending => send_some(alloc, history, walk),
@@ -340,16 +326,7 @@ fn ask<L: Ledger>(
     Ok(())
 }
 
-/// Mends tables for the last entry.
-fn mend(history: &History, tables: &mut Tables, news: News) -> Result<(), Memory> {
-    match news {
-        News::Nothing => Ok(()),
-        News::Sent => tables.mend_sent(history),
-        News::Kept(tag) => tables.mend_kept(history, tag),
-    }
-}
-
-/// Plays ten to thirty entries, and asks for verdicts after each, by tables that are mended for it.
+/// Plays ten to thirty entries, and asks for verdicts after each, by tables that are made anew for it.
 fn follow<L: Ledger>(
     alloc: Global,
     history: &mut History,
@@ -367,7 +344,7 @@ fn follow<L: Ledger>(
     let entries = roll(walk) % 21 + 10;
     for _ in 0..entries {
         step(alloc, history, walk)?;
-        mend(history, &mut tables, walk.news)?;
+        tables.mend(history)?;
         ask(alloc, history, &tables, walk, &mut steps, counts)?;
         ask(alloc, history, &tables, walk, &mut steps, counts)?;
     }
@@ -412,7 +389,6 @@ fn make(alloc: Global, number: u64, counts: &mut Counts) -> Result<(), Memory> {
         sent: 0,
         clock: START,
         appending: number % 8 == 0,
-        news: News::Nothing,
     };
     let tailoring = builtin(alloc)?;
     let known = roll(&mut walk) % 3 != 0;

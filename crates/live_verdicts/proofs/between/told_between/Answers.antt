@@ -6,10 +6,10 @@ use Rattle.hk_base.specs.Fit.{IsFit}
 use Rattle.pus_messages.specs.declared.message.Report.{Report}
 use Rattle.ground_history.specs.Histories.{Kept, tag_of}
 use Rattle.opening_sweeps.specs.Requests.{Start}
-use Rattle.opening_sweeps.proofs.GatherLemmas.{is-next, no-kept, no-report, tag-small}
+use Rattle.definition_intervals.proofs.KeptLemmas.{next-more, is-next, no-kept, no-report, tag-small}
 use Rattle.entry_changes.specs.Changes.{told_start_below}
 use Rattle.live_verdicts.proofs.ToldLemmas.{told-end, told-after}
-use Rattle.live_verdicts.proofs.AmongLemmas.{told-more, told-all}
+use Rattle.live_verdicts.proofs.AmongLemmas.{told-all}
 use Rattle.live_verdicts.proofs.between.told_between.Goals as goal
 use Rattle.live_verdicts.proofs.between.told_between.Goals.{in-Some-told_start_below+in_ok-push, in_default-told_start_below, then-loop-from-test+else-from-last, else-loop-from-test}
 
@@ -38,11 +38,11 @@ loop-from-preserved c =
     elim c.match-told_start_below.branch [
       | in-Some-told_start_below+in_ok-push w ↦
           let o : Option Start = Some w.in-Some-told_start_below.start in
-          told-more key c.args.tag g.history.kept c.loop-from.from r before c.match-told_start_below.starts.items _ o next (sym w.in-Some-told_start_below.is ∙ told)
+          next-more (told_start_below key c.args.tag) g.history.kept c.loop-from.from r before c.match-told_start_below.starts.items _ o next (sym w.in-Some-told_start_below.is ∙ told)
           (ap (λ (v : Vec Start Global). v.items) w.starts-is ∙ w.in_ok-push.ensures.items) c.loop-from.invariant
       | in_default-told_start_below w ↦
           let o : Option Start = None in
-          told-more key c.args.tag g.history.kept c.loop-from.from r before c.match-told_start_below.starts.items _ o next (sym w.in_default-told_start_below.is ∙ told)
+          next-more (told_start_below key c.args.tag) g.history.kept c.loop-from.from r before c.match-told_start_below.starts.items _ o next (sym w.in_default-told_start_below.is ∙ told)
           (ap (λ (v : Vec Start Global). v.items) w.starts-is ∙ sym (append-nil before)) c.loop-from.invariant
     ]
 

@@ -7,12 +7,15 @@ use Rattle.pus_messages.specs.declared.message.Report.{Report}
 use Rattle.ground_history.specs.Histories.{Kept, tag_of}
 use Rattle.ground_history.specs.Ground.{newest_told}
 use Rattle.opening_sweeps.specs.Requests.{Start, told_start, told_starts}
-use Rattle.opening_sweeps.proofs.GatherLemmas.{IsNext, is-next, kept_from, no-kept, no-report, tag-small, told-none, told-more, told-last}
+use Rattle.definition_intervals.proofs.KeptLemmas.{IsNext, is-next, kept_from, no-kept, no-report, tag-small, all-ahead, next-more, none-behind}
+use Rattle.opening_sweeps.proofs.GatherLemmas.{untold}
 use Rattle.opening_sweeps.proofs.gathering.told_starts.Goals as goal
 use Rattle.opening_sweeps.proofs.gathering.told_starts.Goals.{in-Some-told_start+in_ok-push, in_default-told_start}
 
 pub loop-from-init : goal.loop-from-init
-loop-from-init c = told-none c.args.key c.args.history.now.history.kept c.new-starts.result.items c.new-starts.ensures.items
+loop-from-init c =
+    let ks = c.args.history.now.history.kept in
+    all-ahead (told_start c.args.key) ks c.new-starts.result.items ∙ ap (λ xs. xs ++ filter_map (told_start c.args.key) ks) c.new-starts.ensures.items
 
 pub overflow_add-from : goal.overflow_add-from
 overflow_add-from c =
@@ -40,11 +43,11 @@ loop-from-preserved c =
     elim c.match-told_start.branch [
       | in-Some-told_start+in_ok-push w ↦
           let o : Option Start = Some w.in-Some-told_start.start in
-          told-more key g.history.kept c.loop-from.from r before c.match-told_start.starts.items all o next (sym w.in-Some-told_start.is ∙ told)
+          next-more (told_start key) g.history.kept c.loop-from.from r before c.match-told_start.starts.items all o next (sym w.in-Some-told_start.is ∙ told)
           (ap (λ (v : Vec Start Global). v.items) w.starts-is ∙ w.in_ok-push.ensures.items) c.loop-from.invariant
       | in_default-told_start w ↦
           let o : Option Start = None in
-          told-more key g.history.kept c.loop-from.from r before c.match-told_start.starts.items all o next (sym w.in_default-told_start.is ∙ told)
+          next-more (told_start key) g.history.kept c.loop-from.from r before c.match-told_start.starts.items all o next (sym w.in_default-told_start.is ∙ told)
           (ap (λ (v : Vec Start Global). v.items) w.starts-is ∙ sym (append-nil before)) c.loop-from.invariant
     ]
 
@@ -61,4 +64,4 @@ returns c =
     let ks = c.args.history.now.history.kept in
     let from = c.loop-from.from in
     let after : newest_told ks < from = let last = c.newest_told-last.ensures in omega (arith, last, c.loop-from-test.false) in
-    sym (append-nil c.loop-from.starts.items) ∙ (ap (λ ss. c.loop-from.starts.items ++ ss) (sym (told-last c.args.key from ks after)) ∙ c.loop-from.invariant)
+    sym (append-nil c.loop-from.starts.items) ∙ (ap (λ ss. c.loop-from.starts.items ++ ss) (sym (none-behind (told_start c.args.key) (untold c.args.key) from ks after)) ∙ c.loop-from.invariant)

@@ -1,7 +1,7 @@
 use Rattle.std.proofs.Common.{◌≡◌, ◌++◌, length}
 use Rattle.std.specs.Prelude.{filter_map}
 use Rattle.opening_sweeps.specs.Requests as requests
-use Rattle.opening_sweeps.proofs.GatherLemmas.{kept_from}
+use Rattle.definition_intervals.proofs.KeptLemmas.{kept_from}
 use Rattle.opening_sweeps.proofs.gathering.told_starts.Given as goal
 
 abbrev pub invariant-loop-from : goal.invariant-loop-from

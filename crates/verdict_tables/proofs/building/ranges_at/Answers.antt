@@ -1,6 +1,6 @@
 use Rattle.std.proofs.Common.{arith, ℕ, List, subst, sym}
 use Rattle.definition_intervals.specs.Bases.{AreBases}
-use Rattle.verdict_tables.specs.Mending.{AreRangesAt}
+use Rattle.verdict_tables.specs.Collecting.{AreRangesAt}
 use Rattle.verdict_tables.specs.Tables.{RangeParts}
 use Rattle.verdict_tables.proofs.BuildLemmas.{ranges-made}
 use Rattle.verdict_tables.proofs.building.ranges_at.Goals as goal

@@ -140,9 +140,9 @@ entries-octets (suc room) offset octets are =
         let rest = later e in (
           rest.0,
           found-octets room offset octets e are is
-          ∙ ap (λ xs. entry_octets e ++ xs) rest.1
-          ∙ sym (append_assoc (entry_octets e) whole rest.0)
-          ∙ sym (ap (λ x. whole_octets x ++ rest.0) inner),
+              ∙ ap (λ xs. entry_octets e ++ xs) rest.1
+              ∙ sym (append_assoc (entry_octets e) whole rest.0)
+              ∙ sym (ap (λ x. whole_octets x ++ rest.0) inner),
         )
 
 same-octets : (xs ys : List ℕ) → bytes_eq xs ys ≡ true → xs ≡ ys
@@ -180,7 +180,7 @@ trimmed-front octets front are is = by_header (header_in octets) refl
         let behind = entries-octets most_entries 8 (drop 8 octets) (below-drop 8 octets (below-all octets are)) in (
           behind.0,
           sym (take-append-drop 8 octets)
-          ∙ ap₂ (λ xs ys. xs ++ ys) (header-octets (take 8 octets) h at) behind.1
-          ∙ sym (append_assoc (header_octets h) (whole_octets x) behind.0)
-          ∙ ap (λ xs. xs ++ behind.0) same,
+              ∙ ap₂ (λ xs ys. xs ++ ys) (header-octets (take 8 octets) h at) behind.1
+              ∙ sym (append_assoc (header_octets h) (whole_octets x) behind.0)
+              ∙ ap (λ xs. xs ++ behind.0) same,
         )

@@ -6,4 +6,3 @@ pub mod AgreeLemmas
 pub mod LaterLemmas
 pub mod ReplayLemmas
 pub mod ToldLemmas
-pub mod WholeLemmas

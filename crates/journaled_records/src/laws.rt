@@ -1,15 +1,14 @@
 //! What the definitions promise.
-ghost use Rattle.std.specs.Prelude.{◌≡◌, ◌≤◌, ℕ, List, [], ◌∷◌, ◌++◌, length, take, Some, None, Ok};
+ghost use Rattle.std.specs.Prelude.{◌≡◌, ℕ, List, [], ◌∷◌, ◌++◌, take, Some};
 ghost use Rattle.hk_base.specs.TailoringParts.{TailoringParts};
 ghost use Rattle.pus_messages.specs.Messages.{protocol};
-ghost use Rattle.record_commands.specs.Trimming.{trimmed_octets};
 ghost use Rattle.journaled_records.specs.Replays.{IsReplayedTruly, HasTrueSamples};
 ghost use Rattle.std.specs.List.{AllByRecursion};
 ghost use Rattle.journal_texts.specs.Moments.{IsMoment};
 ghost use Rattle.hk_world.specs.Timelines.{EachAfter, Session};
 ghost use Rattle.hk_world.specs.Worlds.{World, Step, IsWorld, MayHappen, MayStep, moments_of, sent_count};
 ghost use Rattle.hk_world.specs.declared.moment.Moment.{Moment};
-ghost use Rattle.session_record.specs.Records.{FitIn, header_of, most_entries, record_fault, trimmed};
+ghost use Rattle.session_record.specs.Records.{FitIn, header_of, most_entries, trimmed};
 ghost use Rattle.session_record.specs.declared.entry.Entry.{Entry};
 ghost use Rattle.session_record.specs.declared.header.Header.{Header};
 ghost use Rattle.session_texts.specs.Truth.{IsSeenIn, IsTrueText};
@@ -52,15 +51,11 @@ pub fn cut_records()
         → (v : World) × IsFrontOf v w × IsOwnRecord v front }
 {}
 
-/// What `trim` leaves of octets is their longest front that is a record, and of a first part of a record without a fault, which has
-/// its header, something is left. Of a cut record with a journal it is that of the world up
-/// to a step; the text of it is true there, and each sample, row of statistics and current value in the whole of the world.
+/// Of what is trimmed of a first part of such a record the text is true in the world up to a step, and each sample, row of
+/// statistics and current value in the whole of the world. So is each sample of a first part of a text that is true up to a step.
 pub fn cut_records_are_replayed()
-    ensures trims { (octets front : List ℕ) → trimmed_octets octets ≡ Ok front → trimmed octets ≡ Some front }
-    ensures given { (octets : List ℕ) (n : ℕ) → record_fault octets ≡ None → 8 ≤ length (take n octets)
-        → (front : List ℕ) × (trimmed_octets (take n octets) ≡ Ok front) }
     ensures replayed { (t : TailoringParts) (w : World) (octets front : List ℕ) (n : ℕ) → w.session.protocol ≡ protocol t → IsOwnRecord w octets
-        → trimmed_octets (take n octets) ≡ Ok front → IsReplayedTruly t w front }
+        → trimmed (take n octets) ≡ Some front → IsReplayedTruly t w front }
     ensures samples { (v w : World) (written rest : List ℕ) → IsFrontOf v w → IsWorld w → IsTrueText v (written ++ rest) → HasTrueSamples w written }
 {}
 

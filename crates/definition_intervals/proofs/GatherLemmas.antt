@@ -28,7 +28,7 @@ use Rattle.report_structures.proofs.GrammarLemmas.{instruction_of_grammar}
 use Rattle.report_structures.proofs.ReportedLemmas.{reported-formed}
 use Rattle.ground_history.specs.Histories.{Sent, Kept, History, tag_of}
 use Rattle.ground_history.specs.Evidence.{outcome}
-use Rattle.ground_history.specs.Ground.{Ground, IsGrammarKept, IsGrounded}
+use Rattle.ground_history.specs.Ground.{Ground, IsGrammarKept, IsGrounded, tells_structure}
 use Rattle.definition_intervals.specs.Openings.{Candidate, Opening, is_possible, is_certain, candidate, candidates, surely_creates, from_creation, opening, reported_structure, report_opening, boot_openings, openings}
 use Rattle.definition_intervals.specs.Findings.{IsFormedCandidate, IsFormedOpening, with_request}
 use Rattle.definition_intervals.specs.Founds.{ChangesAreFormed, ReportedStatesAreFormed}

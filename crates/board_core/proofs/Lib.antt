@@ -1,0 +1,12 @@
+mod CountLemmas
+mod LogLemmas
+mod UplinkLemmas
+mod HandledLemmas
+mod WorkedLemmas
+mod FaultLemmas
+mod StartLemmas
+mod ClockLemmas
+mod RefuseLemmas
+mod CompleteLemmas
+mod WholeLemmas
+mod WorkingLemmas

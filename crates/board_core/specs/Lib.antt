@@ -1,0 +1,5 @@
+pub mod Counts
+pub mod Logs
+pub mod Boards
+pub mod Causes
+pub mod Worked

@@ -1,0 +1,214 @@
+//! The execution of an instruction.
+ghost use Rattle.board_steps.specs.Steps.{Answers};
+ghost use Rattle.board_core.specs.Worked.{IsToExecute};
+ghost use Rattle.board_steps.specs.declared.event.Event.TheVariants.{Work};
+
+use crate::board::BoardCore;
+use crate::effect::Effect;
+use board_steps::BoardFault;
+use board_state::StatisticsChange;
+use crate::log::Draft;
+use board_state::Running;
+use crate::work::progress;
+use hk_base::{Items, Key, Memory, Structure, slot_of};
+use hk_world::Act;
+use pus_messages::ReportBody;
+use st03_grammar::{PeriodicRow, Report03};
+use st04_grammar::Report04;
+use st20_grammar::{Report20, Setting};
+
+impl BoardCore {
+    /// Executes the next instruction of the request that comes first.
+    pub(crate) fn execute(&mut self) -> Result<u32, BoardFault>
+        requires { IsToExecute self.old }
+        ensures { Answers self.old Work self.new result }
+    {
+        let Some(running) = self.requests.first() else {
+            unreachable!();
+        };
+        let effect = self.effect_of(running, running.executed + 1)?;
+        let draft = self.execution(running, &effect)?;
+        self.carry_out(effect, draft)
+    }
+
+    /// The moments of an instruction that is executed.
+    fn execution(&self, running: &Running, effect: &Effect) -> Result<Draft, BoardFault> {
+        let number = running.executed + 1;
+        let count = 1 + u64::from(effect.has_report());
+        let mut draft = self.log.draft(self.clock, count)?;
+        let act = Act::Executed(running.number, number, !effect.is_refused());
+        let report = progress(running, number, effect);
+        draft.add(self.alloc, self.log.tailoring(), act, report)?;
+        self.add_ordered(effect, &mut draft)?;
+        Ok(draft)
+    }
+
+    /// Adds the report that an effect orders.
+    fn add_ordered(&self, effect: &Effect, draft: &mut Draft) -> Result<(), Memory> {
+        match self.ordered_report(effect, draft.next_tag())? {
+            Some(body) => draft.add(
+                self.alloc,
+                self.log.tailoring(),
+                Act::Emitted,
+                Some(body),
+            ),
+            None => Ok(()),
+        }
+    }
+
+    /// The report that an effect orders, at this tag.
+    fn ordered_report(&self, effect: &Effect, tag: u64) -> Result<Option<ReportBody>, Memory> {
+        match effect {
+            Effect::ShowStructure(key, structure) => {
+                let copy = structure.copy(self.alloc)?;
+                Ok(Some(ReportBody::Hk(Report03::Structure(*key, copy))))
+            }
+            Effect::ShowProperties(key, structure) => {
+                Ok(Some(self.properties_report(*key, structure)?))
+            }
+            Effect::ChangeStatistics(StatisticsChange::Report(_)) => {
+                Ok(Some(self.statistics_report(tag, None)?))
+            }
+            Effect::ChangeStatistics(StatisticsChange::ShowDefinitions) => {
+                Ok(Some(self.definitions_report()?))
+            }
+            Effect::ReportValues(ids) => Ok(Some(self.values_report(ids.as_slice())?)),
+            _ => Ok(None),
+        }
+    }
+
+    fn properties_report(&self, key: Key, structure: &Structure) -> Result<ReportBody, Memory> {
+        let row = PeriodicRow {
+            id: key.id,
+            enabled: structure.enabled,
+            interval: structure.def.interval,
+        };
+        let rows = Items::from_slice(self.alloc, &[row])?;
+        Ok(ReportBody::Hk(Report03::Periodic(key.kind, rows)))
+    }
+
+    /// The statistics at this tag.
+    pub(crate) fn statistics_report(
+        &self,
+        tag: u64,
+        closing: Option<u64>,
+    ) -> Result<ReportBody, Memory> {
+        let tailoring = self.log.tailoring();
+        let report = self
+            .members
+            .report(self.alloc, tailoring, &self.channels, tag, closing)?;
+        Ok(ReportBody::Stat(Report04::Statistics(report)))
+    }
+
+    fn definitions_report(&self) -> Result<ReportBody, Memory> {
+        let (enabled, interval) = (self.members.enabled, self.members.interval);
+        let params = self.members.params(self.alloc)?;
+        Ok(ReportBody::Stat(Report04::Definitions(
+            enabled, interval, params,
+        )))
+    }
+
+    fn values_report(&self, ids: &[u32]) -> Result<ReportBody, Memory> {
+        let mut pairs = Vec::new(self.alloc);
+        for id in ids {
+            let Some(value) = self.channels.value(*id) else {
+                unreachable!();
+            };
+            pairs.push(Setting { param: *id, value })?;
+        }
+        let pairs = Items::from_vec(pairs);
+        Ok(ReportBody::Par(Report20 { pairs }))
+    }
+
+    /// Adds the moments of an instruction to the journal, and does what it does.
+    fn carry_out(&mut self, effect: Effect, draft: Draft) -> Result<u32, BoardFault> {
+        match effect {
+            Effect::Refused(_) => self.pass_over(draft),
+            Effect::Create(key, structure) => self.create(key, structure, draft),
+            Effect::ChangeStatistics(change) => self.change_statistics(change, draft),
+            effect => self.change_rest(effect, draft),
+        }
+    }
+
+    /// The slot after that of the first moment of a draft.
+    fn next_slot(&self) -> u64 {
+        let tag = self.clock.max(self.log.last_tag() + 1);
+        slot_of(self.log.tailoring(), tag) + 1
+    }
+
+    /// An instruction was refused.
+    fn pass_over(&mut self, draft: Draft) -> Result<u32, BoardFault> {
+        self.requests.count_refused()?;
+        match self.log.commit(draft) {
+            Ok(count) => Ok(count),
+            Err(Memory) => {
+                self.requests.uncount_refused();
+                Err(BoardFault::Memory)
+            }
+        }
+    }
+
+    /// A new structure, for which the memory is taken first.
+    fn create(
+        &mut self,
+        key: Key,
+        structure: Structure,
+        draft: Draft,
+    ) -> Result<u32, BoardFault> {
+        let first_slot = self.next_slot();
+        self.structures.create(key, structure, first_slot)?;
+        match self.log.commit(draft) {
+            Ok(count) => {
+                self.requests.count_done();
+                Ok(count)
+            }
+            Err(Memory) => {
+                self.structures.delete(key);
+                Err(BoardFault::Memory)
+            }
+        }
+    }
+
+    /// Changes the statistics. The last moment has the last tag.
+    fn change_statistics(
+        &mut self,
+        change: StatisticsChange,
+        draft: Draft,
+    ) -> Result<u32, BoardFault> {
+        let next_slot = self.next_slot();
+        let last_tag = draft.last_tag;
+        self.members.reserve()?;
+        let count = self.log.commit(draft)?;
+        match change {
+            StatisticsChange::Report(true) | StatisticsChange::Reset => {
+                self.members.reset(last_tag)
+            }
+            StatisticsChange::Report(false) | StatisticsChange::ShowDefinitions => {}
+            StatisticsChange::Enable(interval) => self.members.enable(interval, next_slot),
+            StatisticsChange::Disable => self.members.disable(),
+            StatisticsChange::Add(id) => self.members.add(id),
+            StatisticsChange::Delete(id) => self.members.delete(id),
+            StatisticsChange::DeleteAll => self.members.delete_all(),
+        }
+        self.requests.count_done();
+        Ok(count)
+    }
+
+    /// What takes no memory of its own.
+    fn change_rest(&mut self, effect: Effect, draft: Draft) -> Result<u32, BoardFault> {
+        let next_slot = self.next_slot();
+        let count = self.log.commit(draft)?;
+        match effect {
+            Effect::Delete(key) => self.structures.delete(key),
+            Effect::Replace(key, structure, begins) => {
+                let begins = if begins { Some(next_slot) } else { None };
+                self.structures.replace(key, structure, begins)
+            }
+            Effect::OrderOneShot(key) => self.structures.order_one_shot(key, next_slot),
+            Effect::SetValues(settings) => self.channels.set(settings.as_slice()),
+            _rest => {}
+        }
+        self.requests.count_done();
+        Ok(count)
+    }
+}

@@ -1,0 +1,5 @@
+pub mod WaitingLemmas
+pub mod HoldingLemmas
+pub mod KeyLemmas
+pub mod EffectLemmas
+pub mod InstructionLemmas

@@ -1,0 +1,6 @@
+pub mod Cores
+pub mod Slots
+pub mod Plans
+pub mod Steps
+pub mod Runs
+pub mod Timeline

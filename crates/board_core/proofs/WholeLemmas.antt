@@ -24,6 +24,9 @@ use Rattle.hk_world.specs.declared.moment.Act.{Act}
 use Rattle.hk_world.specs.declared.moment.Act.TheVariants.{Accepted, TurnedAway}
 use Rattle.board_steps.specs.Cores.{Core, session}
 use Rattle.board_core.specs.Boards.{IsBoard, IsWhole}
+use Rattle.board_state.specs.Values.{AreValues}
+use Rattle.board_state.specs.declared.channels.Channel.{Channel}
+use Rattle.board_state.proofs.ChannelLemmas.{IsNoFiling, SetsNone, is-valueless, values-still, values-agree}
 use Rattle.board_state.specs.Holdings.{held_at, held_structure, ChangesAt, IsHeld, AreStructures}
 use Rattle.board_steps.specs.Plans.{Plan, does, handled_as, handling, with_request, prepared, planned}
 use Rattle.board_steps.specs.Steps.{AreNext, IsStep}
@@ -50,14 +53,30 @@ same-structures c after held t d h =
     subst (λ x. AreStructures x (done_instructions (session after) after.moments) held) (sym t)
     (subst (λ ds. AreStructures c.tailoring ds held) (sym d) h)
 
+-- one act that does no instruction and files nothing leaves what is held of the parameters
+pub silent-values : (s : Session) (clock slot : ℕ) (earlier after : List Moment) (act : Act) (channels : List (ℕ × Channel)) → ((tag : ℕ) → done_by s tag act ≡ None)
+    → IsNoFiling act → AreNext s clock slot earlier (does act ∷ []) after → AreValues s earlier channels → AreValues s after channels
+silent-values s clock slot earlier after act channels none unfiled h v =
+    let m : Moment = h.0 in
+    let undone : done_by s m.tag m.act ≡ None = ap (done_by s m.tag) h.1.follows.0 ∙ none m.tag in
+    subst (λ ms. AreValues s ms channels) (sym h.2)
+    (values-still s m earlier channels
+        (is-valueless s m (subst IsNoFiling (sym h.1.follows.0) unfiled) (subst (λ (o : Option Done). IfSome o (λ d. SetsNone d.instruction)) (sym undone) tt)) v)
+
 -- a step of a request that does no instruction
-pub work-holds : (c after : Core) (waiting ws : List Running) (held : List (Key × Held)) (act : Act) → planned c Work ≡ does act ∷ [] → ((tag : ℕ) → done_by (session c) tag act ≡ None)
-    → IsStep c Work after → IsBoard after ws → IsWhole c waiting held → IsWhole after ws held
-work-holds c after waiting ws held act plans none step board h =
+pub work-holds : (c after : Core) (waiting ws : List Running) (held : List (Key × Held)) (channels : List (ℕ × Channel)) (act : Act) → planned c Work ≡ does act ∷ []
+    → ((tag : ℕ) → done_by (session c) tag act ≡ None) → IsNoFiling act
+    → IsStep c Work after → IsBoard after ws → IsWhole c waiting held channels → IsWhole after ws held channels
+work-holds c after waiting ws held channels act plans none unfiled step board h =
     let next = subst (λ xs. AreNext (session c) c.clock c.slot_now c.moments xs after.moments) plans step.moments in
     let same : session after ≡ session c = ap₂ session_by step.tailoring step.requests in
     let dones = ap (λ s. done_instructions s after.moments) same ∙ silent-dones (session c) c.clock c.slot_now c.moments after.moments act none next in
-    record { board = board; structures = same-structures c after held step.tailoring dones h.structures }
+    record {
+      board = board;
+      structures = same-structures c after held step.tailoring dones h.structures;
+      values = subst (λ s. AreValues s after.moments channels) (sym same)
+          (silent-values (session c) c.clock c.slot_now c.moments after.moments act channels none unfiled next h.values);
+    }
 
 handling-silent : (s : Session) (k tag : ℕ) → done_by s tag (handling s k) ≡ None
 handling-silent s k tag = go (is_some (request_at s k))
@@ -66,10 +85,17 @@ handling-silent s k tag = go (is_some (request_at s k))
     go true = refl
     go false = refl
 
+handling-unfiled : (s : Session) (k : ℕ) → IsNoFiling (handling s k)
+handling-unfiled s k = go (is_some (request_at s k))
+  where
+    go : (b : Bool) → IsNoFiling (if b then Accepted k else TurnedAway k)
+    go true = tt
+    go false = tt
+
 -- a step that handles a packet
-pub uplink-holds : (c after : Core) (packet : List ℕ) (k : ℕ) (waiting ws : List Running) (held : List (Key × Held)) → handled_as c packet ≡ Some k
-    → IsStep c (Uplink packet) after → IsBoard after ws → IsWhole c waiting held → IsWhole after ws held
-uplink-holds c after packet k waiting ws held e step board h =
+pub uplink-holds : (c after : Core) (packet : List ℕ) (k : ℕ) (waiting ws : List Running) (held : List (Key × Held)) (channels : List (ℕ × Channel)) → handled_as c packet ≡ Some k
+    → IsStep c (Uplink packet) after → IsBoard after ws → IsWhole c waiting held channels → IsWhole after ws held channels
+uplink-holds c after packet k waiting ws held channels e step board h =
     let p : Core = with_packet c packet (Some k) in
     let core-is : prepared c (Uplink packet) ≡ p = ap (with_packet c packet) e in
     let plans : planned c (Uplink packet) ≡ does (handling (session p) k) ∷ [] = ap (packet_plans c packet) e in
@@ -78,8 +104,16 @@ uplink-holds c after packet k waiting ws held e step board h =
     let next = subst (λ xs. AreNext (session p) p.clock c.slot_now c.moments xs after.moments) plans a in
     let requests : after.requests ≡ p.requests = step.requests ∙ ap (λ (x : Core). x.requests) core-is in
     let same : session after ≡ session p = ap₂ session_by step.tailoring requests in
+    let agree = agree-all c.requests more c.moments h.board.stands.good.below in
     let grow : done_instructions (session p) c.moments ≡ done_instructions (session c) c.moments =
-        sym (dones-agrees (session c) (c.requests ++ more) c.moments (agree-all c.requests more c.moments h.board.stands.good.below)) in
+        sym (dones-agrees (session c) (c.requests ++ more) c.moments agree) in
     let dones = ap (λ s. done_instructions s after.moments) same
         ∙ silent-dones (session p) p.clock c.slot_now c.moments after.moments (handling (session p) k) (handling-silent (session p) k) next ∙ grow in
-    record { board = board; structures = same-structures c after held step.tailoring dones h.structures }
+    let values : AreValues (session p) c.moments channels = values-agree (session c) (c.requests ++ more) c.moments channels agree h.values in
+    record {
+      board = board;
+      structures = same-structures c after held step.tailoring dones h.structures;
+      values = subst (λ s. AreValues s after.moments channels) (sym same)
+          (silent-values (session p) p.clock c.slot_now c.moments after.moments (handling (session p) k) channels (handling-silent (session p) k)
+              (handling-unfiled (session p) k) next values);
+    }

@@ -6,7 +6,9 @@ use Rattle.hk_world.specs.Timelines.{done_instructions}
 use Rattle.board_core.specs.Logs.{LogParts}
 use Rattle.board_state.specs.Holdings.{AreStructures}
 use Rattle.board_steps.specs.Timeline.{Stands}
+use Rattle.board_state.specs.Values.{AreValues}
 use Rattle.board_state.specs.Waiting.{RequestsHeld, AreWaiting}
+use Rattle.board_state.specs.declared.channels.Channel.{Channel}
 use Rattle.board_state.specs.declared.running.Running.{Running}
 use Rattle.board_state.specs.declared.structures.Held.{Held}
 
@@ -36,7 +38,8 @@ pub record IsBoard (c : Core) (waiting : List Running) : Type 0 where
   pub waits : AreWaiting (session c) c.moments waiting
   pub room : length c.moments ≤ 1048576
 
--- so is what is held of the structures
-pub record IsWhole (c : Core) (waiting : List Running) (held : List (Key × Held)) : Type 0 where
+-- so is what is held of the structures and of the parameters
+pub record IsWhole (c : Core) (waiting : List Running) (held : List (Key × Held)) (channels : List (ℕ × Channel)) : Type 0 where
   pub board : IsBoard c waiting
   pub structures : AreStructures c.tailoring (done_instructions (session c) c.moments) held
+  pub values : AreValues (session c) c.moments channels

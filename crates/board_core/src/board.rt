@@ -37,7 +37,7 @@ impl Model for BoardCore {
 
     ghost view = { λ b. core_of b.clock b.slot_now b.requests b.structures b.log };
 
-    ghost invariant = { λ b. IsWhole (core_of b.clock b.slot_now b.requests b.structures b.log) b.requests.waiting b.structures };
+    ghost invariant = { λ b. IsWhole (core_of b.clock b.slot_now b.requests b.structures b.log) b.requests.waiting b.structures b.channels };
 }
 
 impl BoardCore {

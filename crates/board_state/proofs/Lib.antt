@@ -3,3 +3,4 @@ pub mod HoldingLemmas
 pub mod KeyLemmas
 pub mod EffectLemmas
 pub mod InstructionLemmas
+pub mod ChannelLemmas

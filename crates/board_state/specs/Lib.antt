@@ -1,3 +1,4 @@
 pub mod Holdings
 pub mod Waiting
 pub mod OneByOne
+pub mod Values

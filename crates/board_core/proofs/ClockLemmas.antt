@@ -23,7 +23,7 @@ module _ (clock slot tag : ℕ) (rq : RequestsHeld) (held : List (Key × Held)) 
   pub clock-board : IsBoard (core_of (max clock tag) slot rq held l) rq.waiting
   clock-board =
       record {
-        stands = record { good = record { timeline = b.stands.good.timeline; below = b.stands.good.below; filed = b.stands.good.filed }; octets = b.stands.octets };
+        stands = record { good = record { timeline = b.stands.good.timeline; below = b.stands.good.below; filed = b.stands.good.filed }; octets = b.stands.octets; packets = b.stands.packets; few = b.stands.few; room = b.stands.room; early = b.stands.early };
         waits = record { each = b.waits.each; order = b.waits.order; all = b.waits.all };
         room = b.room;
       }

@@ -141,7 +141,7 @@ silent-drafted l act tag old new d is early clock counters last pushed =
     let more = ap (drafted l) pushed ∙ drafted-more l old.moments.items m in
     record {
       moment = m;
-      added = record { tag = is ∙ ap (λ n. max old.clock (n + 1)) d.last_is; act_is = refl; packet = refl };
+      added = record { tag = is ∙ ap (λ n. max old.clock (n + 1)) d.last_is; act_is = refl; packet = refl; octets = tt };
       moments = pushed;
       draft = subst (λ ms. IsKept l.tailoring ms new.last_tag new.counters) (sym more)
           (record {
@@ -156,16 +156,16 @@ silent-drafted l act tag old new d is early clock counters last pushed =
 -- a moment with a report
 pub told-drafted : (l : LogParts) (act : Act) (body : ReportBody) (tag : ℕ) (packet : List ℕ) (h : TmHeader) (old new : Draft) → IsDraft l old → tag ≡ max old.clock (old.last_tag + 1)
     → tag ≤ greatest_tag l.tailoring → h ≡ header_of (protocol l.tailoring) (drafted l old.moments.items) tag body → (protocol l.tailoring).reception packet ≡ readable (record { header = h; body = body })
-    → new.clock ≡ old.clock → new.counters ≡ counted (type_place body) old.counters → new.last_tag ≡ tag → new.moments.items ≡ old.moments.items ++ record { tag = tag; act = act; packet = packet } ∷ []
+    → AreOctets packet → new.clock ≡ old.clock → new.counters ≡ counted (type_place body) old.counters → new.last_tag ≡ tag → new.moments.items ≡ old.moments.items ++ record { tag = tag; act = act; packet = packet } ∷ []
     → IsDrafted l old.clock act (Some body) old new
-told-drafted l act body tag packet h old new d is early header told clock counters last pushed =
+told-drafted l act body tag packet h old new d is early header told octets clock counters last pushed =
     let m : Moment = record { tag = tag; act = act; packet = packet } in
     let more = ap (drafted l) pushed ∙ drafted-more l old.moments.items m in
     let read : (protocol l.tailoring).reception packet ≡ readable (record { header = header_of (protocol l.tailoring) (drafted l old.moments.items) tag body; body = body }) =
         told ∙ ap (λ x. readable (record { header = x; body = body })) header in
     record {
       moment = m;
-      added = record { tag = is ∙ ap (λ n. max old.clock (n + 1)) d.last_is; act_is = refl; packet = read };
+      added = record { tag = is ∙ ap (λ n. max old.clock (n + 1)) d.last_is; act_is = refl; packet = read; octets = octets };
       moments = pushed;
       draft = subst (λ ms. IsKept l.tailoring ms new.last_tag new.counters) (sym more)
           (record {

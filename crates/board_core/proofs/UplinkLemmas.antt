@@ -119,5 +119,6 @@ module _ (clock slot : ℕ) (rq : RequestsHeld) (held : List (Key × Held)) (l :
               tag = added.tag;
               follows = (added.act_is ∙ is, subst (Carries (handled_session l rq k packet) l.moments m) is carries);
               header = next-header l.tailoring l.moments m body added.packet;
+              octets = added.octets;
             }, refl));
       }

@@ -162,5 +162,5 @@ module _ (clock slot : ℕ) (rq : RequestsHeld) (held : List (Key × Held)) (l :
         slot_now = refl;
         one_shots = λ key. sym (ap (one_shot_by (core_of clock slot rq held l) key) done-none);
         moments = subst (λ xs. AreNext (session (core_of clock slot rq held l)) clock slot l.moments xs (m ∷ l.moments)) (sym work-planned)
-            (m, record { tag = added.tag; follows = (added.act_is, carries); header = next-header l.tailoring l.moments m body added.packet }, refl);
+            (m, record { tag = added.tag; follows = (added.act_is, carries); header = next-header l.tailoring l.moments m body added.packet; octets = added.octets }, refl);
       }

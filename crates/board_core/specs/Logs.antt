@@ -2,6 +2,7 @@
 use Rattle.std.specs.Prelude.{◌≡◌, ℕ, ◌+◌, ◌<◌, ◌≤◌, max, ⊤, List, [], ◌∷◌, ◌++◌, length, reverse, Bool, true, false, ◌&&◌, nat_lt, Option, Some, None, Result, Ok, Err, IfSome}
 use Rattle.hk_base.specs.Fit.{greatest_tag}
 use Rattle.hk_base.specs.TailoringParts.{TailoringParts}
+use Rattle.body_fields.specs.Spelling.{AreOctets}
 use Rattle.pus_messages.specs.Messages.{protocol}
 use Rattle.pus_messages.specs.Protocol.{Protocol, readable}
 use Rattle.pus_messages.specs.Spelling.{IsReportBody, HasRoom, report_body_octets}
@@ -49,11 +50,12 @@ abbrev pub IsPacket : Protocol → List Moment → ℕ → Option ReportBody →
 IsPacket p earlier tag None packet = packet ≡ []
 IsPacket p earlier tag (Some body) packet = p.reception packet ≡ readable (record { header = header_of p earlier tag body; body = body })
 
--- a moment is the next one, with this act and with this report
+-- a moment is the next one, with this act and with this report; its packet is of octets
 pub record IsAdded (t : TailoringParts) (clock : ℕ) (earlier : List Moment) (act : Act) (body : Option ReportBody) (m : Moment) : Type 0 where
   pub tag : m.tag ≡ next_tag clock earlier
   pub act_is : m.act ≡ act
   pub packet : IsPacket (protocol t) earlier m.tag body m.packet
+  pub octets : AreOctets m.packet
 
 -- a draft with one moment more
 pub record IsDrafted (l : LogParts) (clock : ℕ) (act : Act) (body : Option ReportBody) (old new : Draft) : Type 0 where

@@ -26,26 +26,14 @@ use Rattle.hk_world.specs.Timelines.{EachAfter, Session, tailoring, Done, reques
 use Rattle.hk_world.specs.Legal.{TagRises, HandlesNext, HandledBelow, IsRejected, MayFollow, is_pending, begins, IsInOrder, TellsOutcome, IsSample, FilesSample, is_acceptance, is_filing, refused_numbers}
 use Rattle.hk_world.specs.Honest.{Carries, VerifiesIf, IsReport, IsSilent, IsHonestBody, IsParameterReport, IsPeriodicRow, IsStatRow, IsStatisticsReport, IsFiled, cause_of, id_of_packet, samples_of, has_samples}
 use Rattle.hk_world.specs.Worlds.{MayHappen}
-pub use Rattle.board_steps.specs.Timeline.{IsBelow, AreBelow}
+pub use Rattle.board_steps.specs.Timeline.{IsBelow, AreBelow, exchanged, Agrees, AgreeOn}
 use Rattle.hk_world.specs.declared.moment.Moment.{Moment}
 use Rattle.hk_world.specs.declared.moment.Act.{Act}
 use Rattle.hk_world.specs.declared.moment.Act.TheVariants.{Accepted, TurnedAway, Started, NotStarted, Executed, Completed, Emitted, Filed}
 
--- a session with other requests
-abbrev pub exchanged : Session → List (List ℕ) → Session
-exchanged s other = record { protocol = s.protocol; known = s.known; long = s.long; initial = s.initial; requests = other }
-
 -- a session with more requests
 abbrev pub grown : Session → List (List ℕ) → Session
 grown s more = exchanged s (s.requests ++ more)
-
--- two lists of packets agree at the number that an act names
-abbrev pub Agrees : List (List ℕ) → List (List ℕ) → Act → Type 0
-Agrees requests other act = IfSome (request_number act) (λ k. slice_get requests k ≡ slice_get other k)
-
--- they agree at each number that a moment names
-abbrev pub AgreeOn : List (List ℕ) → List (List ℕ) → List Moment → Type 0
-AgreeOn requests other moments = AllByRecursion (λ m. Agrees requests other m.act) moments
 
 pub slice_get-front : {X : Type 0} (xs ys : List X) (k : ℕ) → k < length xs → slice_get (xs ++ ys) k ≡ slice_get xs k
 slice_get-front [] ys k h = absurd (omega (arith, h))

@@ -6,7 +6,7 @@ use Rattle.std.specs.Option.{option_map_or}
 use Rattle.std.proofs.lemmas.Option.{same_Some, none-some}
 use Rattle.std.proofs.lemmas.List.{length-replicate}
 use Rattle.std.proofs.lemmas.Bool.Decides.{nat_tests}
-use Rattle.std.proofs.lemmas.Bool.{or_cases}
+use Rattle.std.proofs.lemmas.Bool.{or_cases, ltb-false}
 use Rattle.hk_base.specs.Fit.{IsFit, greatest_tag}
 use Rattle.hk_base.specs.TailoringParts.{TailoringParts}
 use Rattle.hk_base.specs.Parameters.{parameter, is_settable}
@@ -15,6 +15,7 @@ use Rattle.body_fields.specs.Spelling.{AreOctets}
 use Rattle.pus_packet.specs.declared.header.TcHeader.{TcHeader}
 use Rattle.pus_messages.specs.Instructions.{instructions}
 use Rattle.pus_messages.specs.Messages.{protocol}
+use Rattle.pus_messages.proofs.Lawful.{lawful}
 use Rattle.pus_messages.specs.declared.message.Request.{Request}
 use Rattle.hk_world.specs.States.{boot_state}
 use Rattle.hk_world.specs.Timelines.{EachAfter, Session, tailoring, request_at, instructions_at, request_number, is_act_of, last_act}
@@ -63,9 +64,17 @@ time-left c event e some =
         (is_closing event) (nat_lt (greatest_tag c.tailoring) (prepared c event).clock) e first in
     grind (arith, nat_tests)
 
+-- the timeline of a core is good, and its requests are of octets
+record IsSteady (c : Core) : Type 0 where
+  pub good : IsGood (session c) c.slot_now c.moments
+  pub octets : AllByRecursion AreOctets c.requests
+
+steady : (c : Core) → Stands c → IsSteady c
+steady c k = record { good = k.good; octets = k.octets }
+
 -- what is known of the core after a step, by its session and its slot
 stands-from : (t : TailoringParts) (requests : List (List ℕ)) (slot : ℕ) (after : Core) → after.tailoring ≡ t → after.requests ≡ requests → after.slot_now ≡ slot
-    → IsGood (session_by t requests) slot after.moments → AllByRecursion AreOctets requests → Stands after
+    → IsGood (session_by t requests) slot after.moments → AllByRecursion AreOctets requests → IsSteady after
 stands-from t requests slot after same listed now g octets =
     let a = subst (λ n. IsGood (session_by t requests) n after.moments) (sym now) g in
     let b = subst (λ rs. IsGood (session_by t rs) after.slot_now after.moments) (sym listed) a in
@@ -191,7 +200,7 @@ may-handle c s k m le known below false e h =
     }
 
 -- a packet comes
-uplink-next : (c : Core) (packet : List ℕ) (o : Option ℕ) → handled_as c packet ≡ o → AreOctets packet → Stands c → (after : List Moment)
+uplink-next : (c : Core) (packet : List ℕ) (o : Option ℕ) → handled_as c packet ≡ o → AreOctets packet → IsSteady c → (after : List Moment)
     → next_tag c.clock c.moments + length (packet_plans c packet o) ≤ greatest_tag c.tailoring + 1 ⊎ (packet_plans c packet o ≡ [])
     → AreNext (session (with_packet c packet o)) (with_packet c packet o).clock c.slot_now c.moments (packet_plans c packet o) after
     → IsGood (session (with_packet c packet o)) c.slot_now after × AllByRecursion AreOctets (with_packet c packet o).requests
@@ -207,7 +216,7 @@ uplink-next c packet (Some n) e octets k after (inl time) h =
     (subst (IsGood s c.slot_now) (sym h.2) good, packet-octets c packet n k.octets octets)
 
 -- a sample comes
-filing-next : (c : Core) (x : Sample) → MayFile c x → Stands c → (after : List Moment) → next_tag c.clock c.moments + 1 ≤ greatest_tag c.tailoring + 1
+filing-next : (c : Core) (x : Sample) → MayFile c x → IsSteady c → (after : List Moment) → next_tag c.clock c.moments + 1 ≤ greatest_tag c.tailoring + 1
     → AreNext (session c) c.clock c.slot_now c.moments (does (Filed x.param x.slot x.value) ∷ []) after → IsGood (session c) c.slot_now after
 filing-next c x f k after time h =
     let may : MayDo (session c) c.slot_now c.moments (Filed x.param x.slot x.value) =
@@ -240,7 +249,7 @@ filing-next c x f k after time h =
 abbrev pub acts_of : Core → Option ℕ → List Act
 acts_of c o = option_map_or (λ k. next_acts (session c) c.moments k (last_act k c.moments)) o []
 
-work-acts : (c : Core) → RequestsOnly c.tailoring → Stands c → (o : Option ℕ) → worked_request c ≡ o → IsOneAct (session c) c.slot_now c.moments (acts_of c o)
+work-acts : (c : Core) → RequestsOnly c.tailoring → IsSteady c → (o : Option ℕ) → worked_request c ≡ o → IsOneAct (session c) c.slot_now c.moments (acts_of c o)
 work-acts c only k None e = inl refl
 work-acts c only k (Some n) e =
     let found = find-range (λ j. is_pending (last_act j c.moments)) 0 (length c.requests) n e in
@@ -275,7 +284,7 @@ packet-tailoring : (c : Core) (packet : List ℕ) (o : Option ℕ) → (with_pac
 packet-tailoring c packet None = refl
 packet-tailoring c packet (Some k) = refl
 
-work-next : (c : Core) → RequestsOnly c.tailoring → Stands c → (after : List Moment) → is_late c Work ≡ false
+work-next : (c : Core) → RequestsOnly c.tailoring → IsSteady c → (after : List Moment) → is_late c Work ≡ false
     → AreNext (session c) c.clock c.slot_now c.moments (planned c Work) after → IsGood (session c) c.slot_now after
 work-next c only k after time h = go (some-or-none (planned c Work))
   where
@@ -285,7 +294,7 @@ work-next c only k after time h = go (some-or-none (planned c Work))
         (work-acts c only k (worked_request c) refl) (time-left c Work time some) h
     go (inr none) = subst (IsGood (session c) c.slot_now) (sym (none-comes (session c) c.clock c.slot_now c.moments after (planned c Work) none h)) k.good
 
-close-next : (c : Core) → IsFit c.tailoring → RequestsOnly c.tailoring → Stands c → (after : List Moment) → is_late c CloseSlot ≡ false
+close-next : (c : Core) → IsFit c.tailoring → RequestsOnly c.tailoring → IsSteady c → (after : List Moment) → is_late c CloseSlot ≡ false
     → AreNext (session c) (prepared c CloseSlot).clock c.slot_now c.moments (planned c CloseSlot) after → IsGood (session c) (c.slot_now + 1) after
 close-next c fit only k after time h = go (some-or-none (planned c CloseSlot))
   where
@@ -296,9 +305,9 @@ close-next c fit only k after time h = go (some-or-none (planned c CloseSlot))
         subst (IsGood (session c) (c.slot_now + 1)) (sym same)
         (record { timeline = k.good.timeline; below = k.good.below; filed = are-filed-later c.tailoring c.slot_now c.moments k.good.filed })
 
--- a step leaves a core that stands
-pub step-stands : (before : Core) (event : Event) (after : Core) → IsFit before.tailoring → RequestsOnly before.tailoring → Stands before → IsMade before event after → Stands after
-step-stands before (Uplink packet) after fit only k made =
+-- a step leaves a good timeline
+step-steady : (before : Core) (event : Event) (after : Core) → IsFit before.tailoring → RequestsOnly before.tailoring → IsSteady before → IsMade before event after → IsSteady after
+step-steady before (Uplink packet) after fit only k made =
     let o : Option ℕ = handled_as before packet in
     let time = uplink-time before packet made.time in
     let T : ℕ → Type 0 = λ n. (next_tag n before.moments + length (packet_plans before packet o) ≤ greatest_tag before.tailoring + 1) ⊎ (packet_plans before packet o ≡ []) in
@@ -306,23 +315,99 @@ step-stands before (Uplink packet) after fit only k made =
     let g : IsGood (session_by before.tailoring (with_packet before packet o).requests) before.slot_now after.moments =
         subst (λ t. IsGood (session_by t (with_packet before packet o).requests) before.slot_now after.moments) (packet-tailoring before packet o) r.0 in
     stands-from before.tailoring (with_packet before packet o).requests before.slot_now after made.step.tailoring made.step.requests made.step.slot_now g r.1
-step-stands before (Clock tag) after fit only k made =
+step-steady before (Clock tag) after fit only k made =
     stands-from before.tailoring before.requests before.slot_now after made.step.tailoring made.step.requests made.step.slot_now
     (subst (IsGood (session before) before.slot_now) (sym made.step.moments) k.good) k.octets
-step-stands before Work after fit only k made =
+step-steady before Work after fit only k made =
     stands-from before.tailoring before.requests before.slot_now after made.step.tailoring made.step.requests made.step.slot_now
     (work-next before only k after.moments made.time made.step.moments) k.octets
-step-stands before (Filing x) after fit only k made =
+step-steady before (Filing x) after fit only k made =
     stands-from before.tailoring before.requests before.slot_now after made.step.tailoring made.step.requests made.step.slot_now
     (filing-next before x made.comes k after.moments (time-left before (Filing x) made.time (omega arith)) made.step.moments) k.octets
-step-stands before CloseSlot after fit only k made =
+step-steady before CloseSlot after fit only k made =
     stands-from before.tailoring before.requests (before.slot_now + 1) after made.step.tailoring made.step.requests made.step.slot_now
     (close-next before fit only k after.moments made.time made.step.moments) k.octets
 
-pub new-stands : (t : TailoringParts) → Stands (new_core t)
-new-stands t = record { good = record { timeline = tt; below = tt; filed = tt }; octets = tt }
+-- the moments that come have packets of octets
+next-octets : (s : Session) (clock slot : ℕ) (earlier after : List Moment) (plans : List Plan) → AllByRecursion (λ m. AreOctets m.packet) earlier
+    → AreNext s clock slot earlier plans after → AllByRecursion (λ m. AreOctets m.packet) after
+next-octets s clock slot earlier after [] all h = subst (AllByRecursion (λ (m : Moment). AreOctets m.packet)) (sym h) all
+next-octets s clock slot earlier after (plan ∷ plans) all h = next-octets s clock slot (h.0 ∷ earlier) after plans (h.1.octets, all) h.2
 
-run-tailoring : (t : TailoringParts) (events : List Event) (c : Core) → IsRun t events c → c.tailoring ≡ t
+-- as many moments come as were planned
+pub next-length : (s : Session) (clock slot : ℕ) (earlier after : List Moment) (plans : List Plan) → AreNext s clock slot earlier plans after
+    → length after ≡ length earlier + length plans
+next-length s clock slot earlier after [] h = ap length h ∙ omega arith
+next-length s clock slot earlier after (plan ∷ plans) h = next-length s clock slot (h.0 ∷ earlier) after plans h.2 ∙ omega arith
+
+-- the number of a packet that is handled has 14 bits
+pub number-small : (c : Core) (packet : List ℕ) (k : ℕ) → handled_as c packet ≡ Some k → k < 16384
+number-small c packet k e = by_header ((session c).protocol.command packet) refl
+  where
+    by_test : (h : TcHeader) (b : Bool) → (session c).protocol.command packet ≡ Some h → (if b then Some h.count else None) ≡ Some k → k < 16384
+    by_test h true f g =
+        let same : h.count ≡ k = same_Some h.count k g in
+        let low : h.count < 2 ^ 14 = (lawful c.tailoring).count packet h f in
+        omega (arith, same, low)
+    by_test h false f g = absurd (none-some k g)
+
+    by_header : (o : Option TcHeader) → (session c).protocol.command packet ≡ o → k < 16384
+    by_header None f = absurd (none-some k (sym (ap (λ o. option_and_then (λ h. if is_handled c h then Some h.count else None) o) f) ∙ e))
+    by_header (Some h) f = by_test h (is_handled c h) f (sym (ap (λ o. option_and_then (λ x. if is_handled c x then Some x.count else None) o) f) ∙ e)
+
+-- there are no more requests than counts
+few-more : (c : Core) (packet : List ℕ) (o : Option ℕ) → handled_as c packet ≡ o → length c.requests ≤ 16384 → length (with_packet c packet o).requests ≤ 16384
+few-more c packet None e h = h
+few-more c packet (Some k) e h = omega (arith, packet-length c packet k (number-new c packet k e), number-small c packet k e)
+
+few-after : (c : Core) (event : Event) → length c.requests ≤ 16384 → length (prepared c event).requests ≤ 16384
+few-after c (Uplink packet) h = few-more c packet (handled_as c packet) refl h
+few-after c (Clock tag) h = h
+few-after c Work h = h
+few-after c (Filing x) h = h
+few-after c CloseSlot h = h
+
+-- the slot that runs begins at a tag that a packet can carry
+early-after : (c : Core) (event : Event) → is_late c event ≡ false → c.slot_now * c.tailoring.widths.slot ≤ greatest_tag c.tailoring
+    → slot_after_event c event * c.tailoring.widths.slot ≤ greatest_tag c.tailoring
+early-after c (Uplink packet) e h = h
+early-after c (Clock tag) e h = h
+early-after c Work e h = h
+early-after c (Filing x) e h = h
+early-after c CloseSlot e h =
+    let late : nat_lt (greatest_tag c.tailoring) (prepared c CloseSlot).clock ≡ false =
+    right (nat_lt 0 (length (planned c CloseSlot)) && nat_lt (greatest_tag c.tailoring + 1) (next_tag (prepared c CloseSlot).clock c.moments + length (planned c CloseSlot)))
+        (nat_lt (greatest_tag c.tailoring) (prepared c CloseSlot).clock) e in
+    let low : max c.clock (end_of_slot c) ≤ greatest_tag c.tailoring = ltb-false (greatest_tag c.tailoring) (max c.clock (end_of_slot c)) late in
+    omega (arith, low)
+  where
+    right : (p q : Bool) → (p || q) ≡ false → q ≡ false
+    right false q e = e
+    right true q e = absurd (true_is_not_false e)
+
+-- a step leaves a core that stands
+pub step-stands : (before : Core) (event : Event) (after : Core) → IsFit before.tailoring → RequestsOnly before.tailoring → Stands before → IsMade before event after → Stands after
+step-stands before event after fit only k made =
+    let g = step-steady before event after fit only (steady before k) made in
+    let p = prepared before event in
+    let count = next-length (session p) p.clock before.slot_now before.moments after.moments (planned before event) made.step.moments in
+    let room : length before.moments + length (planned before event) ≤ 1048576 = ltb-false 1048576 (length before.moments + length (planned before event)) made.room in
+    let few : length p.requests ≤ 16384 = few-after before event k.few in
+    let early = early-after before event made.time k.early in
+    let there = subst (λ n. n * before.tailoring.widths.slot ≤ greatest_tag before.tailoring) (sym made.step.slot_now) early in
+    record {
+      good = g.good;
+      octets = g.octets;
+      packets = next-octets (session p) p.clock before.slot_now before.moments after.moments (planned before event) k.packets made.step.moments;
+      few = subst (λ (rs : List (List ℕ)). length rs ≤ 16384) (sym made.step.requests) few;
+      room = omega (arith, count, room);
+      early = subst (λ (t : TailoringParts). after.slot_now * t.widths.slot ≤ greatest_tag t) (sym made.step.tailoring) there;
+    }
+
+pub new-stands : (t : TailoringParts) → Stands (new_core t)
+new-stands t = record { good = record { timeline = tt; below = tt; filed = tt }; octets = tt; packets = tt; few = omega arith; room = omega arith; early = omega arith }
+
+pub run-tailoring : (t : TailoringParts) (events : List Event) (c : Core) → IsRun t events c → c.tailoring ≡ t
 run-tailoring t [] c h = ap (λ (x : Core). x.tailoring) h
 run-tailoring t (event ∷ earlier) c h = h.2.step.tailoring ∙ run-tailoring t earlier h.0 h.1
 

@@ -4,3 +4,5 @@ pub mod Plans
 pub mod Steps
 pub mod Runs
 pub mod Timeline
+pub mod SlotRuns
+pub mod Added

@@ -57,15 +57,16 @@ IsAbout s slot earlier tag (values_of ids) body =
     × AllByRecursion (λ x. (state_after s earlier).value x.param ≡ Some x.value) pairs
 
 -- a moment does or tells what was planned
-abbrev pub Follows : Session → ℕ → List Moment → Moment → Plan → Type 0
-Follows s slot earlier m (does act) = (m.act ≡ act) × Carries s earlier m act
-Follows s slot earlier m (tells topic) = (m.act ≡ Emitted) × ((body : ReportBody) × IsReport s m body × IsAbout s slot earlier m.tag topic body)
+abbrev pub IsAsPlanned : Session → ℕ → List Moment → Moment → Plan → Type 0
+IsAsPlanned s slot earlier m (does act) = (m.act ≡ act) × Carries s earlier m act
+IsAsPlanned s slot earlier m (tells topic) = (m.act ≡ Emitted) × ((body : ReportBody) × IsReport s m body × IsAbout s slot earlier m.tag topic body)
 
--- a moment is the next one, as planned: it takes the next tag, and its report the next header
+-- a moment is the next one, as planned: it takes the next tag, and its report the next header; its packet is of octets
 pub record IsNext (s : Session) (clock slot : ℕ) (earlier : List Moment) (plan : Plan) (m : Moment) : Type 0 where
   pub tag : m.tag ≡ next_tag clock earlier
-  pub follows : Follows s slot earlier m plan
+  pub follows : IsAsPlanned s slot earlier m plan
   pub header : HasNextHeader s.protocol earlier m
+  pub octets : AreOctets m.packet
 
 -- after some moments come those that were planned, one after the other
 abbrev pub AreNext : Session → ℕ → ℕ → List Moment → List Plan → List Moment → Type 0

@@ -1,6 +1,7 @@
 -- What holds of the timeline of each board: it is one that can have happened, and its numbers and slots are those that the board came to.
-use Rattle.std.specs.Prelude.{◌≡◌, ℕ, ◌<◌, ◌≤◌, ⊤, List, length, true, IfSome}
+use Rattle.std.specs.Prelude.{◌≡◌, ℕ, ◌*◌, ◌<◌, ◌≤◌, ⊤, List, length, slice_get, true, IfSome}
 use Rattle.std.specs.List.{AllByRecursion}
+use Rattle.hk_base.specs.Fit.{greatest_tag}
 use Rattle.hk_base.specs.TailoringParts.{TailoringParts}
 use Rattle.body_fields.specs.Spelling.{AreOctets}
 use Rattle.hk_world.specs.Timelines.{EachAfter, Session, tailoring, request_number}
@@ -33,8 +34,23 @@ pub record IsGood (s : Session) (slot : ℕ) (moments : List Moment) : Type 0 wh
   pub below : AreBelow (length s.requests) moments
   pub filed : AreFiledBy (tailoring s) slot moments
 
--- a core that has done what a board can have done
+-- A core that has done what a board can have done: its timeline is good; requests and packets are of octets, and there are no more requests than counts, and no more moments than a journal holds; the slot that runs begins at a tag that a packet can carry.
 pub record Stands (c : Core) : Type 0 where
   pub good : IsGood (session c) c.slot_now c.moments
   pub octets : AllByRecursion AreOctets c.requests
+  pub packets : AllByRecursion (λ m. AreOctets m.packet) c.moments
+  pub few : length c.requests ≤ 16384
+  pub room : length c.moments ≤ 1048576
+  pub early : c.slot_now * c.tailoring.widths.slot ≤ greatest_tag c.tailoring
 
+-- a session with other requests
+abbrev pub exchanged : Session → List (List ℕ) → Session
+exchanged s other = record { protocol = s.protocol; known = s.known; long = s.long; initial = s.initial; requests = other }
+
+-- two lists of packets agree at the number that an act names
+abbrev pub Agrees : List (List ℕ) → List (List ℕ) → Act → Type 0
+Agrees requests other act = IfSome (request_number act) (λ k. slice_get requests k ≡ slice_get other k)
+
+-- they agree at each number that a moment names
+abbrev pub AgreeOn : List (List ℕ) → List (List ℕ) → List Moment → Type 0
+AgreeOn requests other moments = AllByRecursion (λ m. Agrees requests other m.act) moments

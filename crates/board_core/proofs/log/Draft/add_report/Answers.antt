@@ -29,7 +29,7 @@ returns c l same d =
     let early : tag ≤ greatest_tag l.tailoring = subst (λ t. tag ≤ greatest_tag t) (sym same) (subst (λ n. n ≤ greatest_tag c.args.tailoring.now) (sym c.next_tag-tag.ensures) c.requires.early) in
     let counts = subst (λ x. AreCounts (protocol x) moments old.counters) same d.counts in
     let header = subst (λ x. c.header-header.result ≡ header_of (protocol x) moments tag c.args.body) (sym same) (c.header-header.ensures moments counts) in
-    let told = subst (λ x. (protocol x).reception c.in_ok-packet.packet ≡ readable (record { header = c.header-header.result; body = c.args.body })) (sym same) c.in_ok-packet.ensures in
+    let told = subst (λ x. (protocol x).reception c.in_ok-packet.packet ≡ readable (record { header = c.header-header.result; body = c.args.body })) (sym same) c.in_ok-packet.ensures.read in
     told-drafted l c.args.act c.args.body tag c.in_ok-packet.packet c.header-header.result old
-    (record { clock = new.clock; last_tag = new.last_tag; counters = c.count.new.self; moments = new.moments }) d c.next_tag-tag.ensures early header told
+    (record { clock = new.clock; last_tag = new.last_tag; counters = c.count.new.self; moments = new.moments }) d c.next_tag-tag.ensures early header told c.in_ok-packet.ensures.octets
     c.in_ok-push.ensures.clock (c.count.ensures ∙ ap (counted (type_place c.args.body)) c.in_ok-push.ensures.counters) c.in_ok-push.ensures.ok.0 c.in_ok-push.ensures.ok.1

@@ -16,9 +16,12 @@ module _ (clock slot tag : ℕ) (rq : RequestsHeld) (held : List (Key × Held)) 
   not-full n le = grind (arith, nat_tests)
 
   pub clock-set : Answers (core_of clock slot rq held l) (Clock tag) (core_of (max clock tag) slot rq held l) (Ok 0)
-  clock-set =
-      (not-full (length l.moments) b.room, refl, refl,
-      record { tailoring = refl; clock = refl; requests = refl; slot_now = refl; one_shots = λ key. refl; moments = refl })
+  clock-set = (
+    not-full (length l.moments) b.room,
+    refl,
+    refl,
+    record { tailoring = refl; clock = refl; requests = refl; slot_now = refl; one_shots = λ key. refl; moments = refl },
+  )
 
   pub clock-board : IsBoard (core_of (max clock tag) slot rq held l) rq.waiting
   clock-board =

@@ -184,16 +184,23 @@ module _ (clock slot : ℕ) (rq : RequestsHeld) (held : List (Key × Held)) (l :
       let number : request_number m.act ≡ Some k = ap request_number h.3.1.act_is in
       let waiting = waiting-ended s l.moments m k own number (λ j. ap (refused_number j) h.3.1.act_is) w ws refl (ap (λ a. is_pending (Some a)) h.3.1.act_is) each in
       let P : LogParts → Type 0 = λ x.
-          Answers (core_of clock slot rq held l) Work (core_of clock slot (record { packets = rq.packets; waiting = ws }) held x) (Ok count)
-          × IsBoard (core_of clock slot (record { packets = rq.packets; waiting = ws }) held x) ws in
-      subst P (sym h.3.2) ((full, late, h.2 ∙ sym (ap length (work-planned clock slot rq held l k act first acts (λ tag. refl))), step),
-          record { stands = stands; waits = waiting; room = let some = h.0 in grind (arith, nat_tests) })
+      Answers (core_of clock slot rq held l) Work (core_of clock slot (record { packets = rq.packets; waiting = ws }) held x) (Ok count)
+      × IsBoard (core_of clock slot (record { packets = rq.packets; waiting = ws }) held x) ws in
+      subst P (sym h.3.2) (
+        (full, late, h.2 ∙ sym (ap length (work-planned clock slot rq held l k act first acts (λ tag. refl))), step),
+        record { stands = stands; waits = waiting; room = let some = h.0 in grind (arith, nat_tests) },
+      )
 
   -- a request that can't end now, since there is no room or no time
   pub not-completed : (fault : BoardFault) (after : LogParts) → AnswersOne l clock (Completed w.number w.refused.items) (completion w w.refused.items) after (Err fault)
       → Answers (core_of clock slot rq held l) Work (core_of clock slot rq held after) (Err fault) × (after ≡ l)
   not-completed JournalFull after h = ((work-full clock slot rq held l w.number (Completed w.number w.refused.items) first acts (λ tag. refl) ∙ h.0, ap (core_of clock slot rq held) h.1), h.1)
-  not-completed TimeExhausted after h =
-      ((work-full clock slot rq held l w.number (Completed w.number w.refused.items) first acts (λ tag. refl) ∙ h.0,
-      work-late clock slot rq held l w.number (Completed w.number w.refused.items) first acts (λ tag. refl) ∙ h.1, ap (core_of clock slot rq held) h.2), h.2)
+  not-completed TimeExhausted after h = (
+    (
+      work-full clock slot rq held l w.number (Completed w.number w.refused.items) first acts (λ tag. refl) ∙ h.0,
+      work-late clock slot rq held l w.number (Completed w.number w.refused.items) first acts (λ tag. refl) ∙ h.1,
+      ap (core_of clock slot rq held) h.2,
+    ),
+    h.2,
+  )
   not-completed Memory after h = (ap (core_of clock slot rq held) h, h)

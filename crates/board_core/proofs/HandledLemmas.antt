@@ -91,8 +91,8 @@ module _ (clock slot : ℕ) (rq : RequestsHeld) (held : List (Key × Held)) (l :
       let due = ap (λ o. option_map_or (λ x. x.header.flags / 2 ^ 0 % 2 == 1) o false) at in
       let told = subst (λ x. IsPacket s.protocol l.moments m.tag x m.packet) is h.3.1.packet in
       let carries : Carries s l.moments m (Accepted k) =
-          subst (λ d. VerifiesIf d s m (verify.Accepted (request_id s k))) (sym due)
-          (subst (λ i. VerifiesIf (asks r Acceptance) s m (verify.Accepted i)) (id ∙ sym names) (verifies s l.moments m (asks r Acceptance) (verify.Accepted w.id) told)) in
+      subst (λ d. VerifiesIf d s m (verify.Accepted (request_id s k))) (sym due)
+      (subst (λ i. VerifiesIf (asks r Acceptance) s m (verify.Accepted i)) (id ∙ sym names) (verifies s l.moments m (asks r Acceptance) (verify.Accepted w.id) told)) in
       let step = handled-step clock slot rq held l packet k e (rq.waiting ++ w ∷ []) (Accepted k) body m h.3.1 act carries in
       let full = full-is clock slot rq held l packet k e ∙ h.0 in
       let late = late-is clock slot rq held l packet k e ∙ h.1 in
@@ -100,10 +100,10 @@ module _ (clock slot : ℕ) (rq : RequestsHeld) (held : List (Key × Held)) (l :
       let stands = step-stands (core_of clock slot rq held l) (Uplink packet) core fit only b.stands (record { comes = octets; room = full; time = late; step = step }) in
       let no_refusals : refused_numbers k l.moments ≡ [] = ap reverse (none-of-filter (length rq.packets) k l.moments next b.stands.good.below) in
       let waits = waiting-accepted (session (core_of clock slot rq held l)) (replicate (k - length rq.packets) [] ++ packet ∷ []) l.moments m k next known h.3.1.act_is rq.waiting w number started executed
-          (refused ∙ sym no_refusals) refused (at ∙ ap Some (sym request)) (id ∙ sym names) b.waits in
+      (refused ∙ sym no_refusals) refused (at ∙ ap Some (sym request)) (id ∙ sym names) b.waits in
       let P : LogParts → Type 0 = λ x.
-          Answers (core_of clock slot rq held l) (Uplink packet) (core_of clock slot (record { packets = with_request rq.packets k packet; waiting = rq.waiting ++ w ∷ [] }) held x) (Ok count)
-          × IsBoard (core_of clock slot (record { packets = with_request rq.packets k packet; waiting = rq.waiting ++ w ∷ [] }) held x) (rq.waiting ++ w ∷ []) in
+      Answers (core_of clock slot rq held l) (Uplink packet) (core_of clock slot (record { packets = with_request rq.packets k packet; waiting = rq.waiting ++ w ∷ [] }) held x) (Ok count)
+      × IsBoard (core_of clock slot (record { packets = with_request rq.packets k packet; waiting = rq.waiting ++ w ∷ [] }) held x) (rq.waiting ++ w ∷ []) in
       subst P (sym h.3.2) ((full, late, h.2 ∙ planned-one, step), record { stands = stands; waits = waits; room = let some = h.0 in grind (arith, nat_tests) })
     where
       planned-one : 1 ≡ length (planned (core_of clock slot rq held l) (Uplink packet))
@@ -122,7 +122,7 @@ module _ (clock slot : ℕ) (rq : RequestsHeld) (held : List (Key × Held)) (l :
       let names : request_id s k ≡ id_of_packet packet = ap (λ o. id_of_packet (unwrap_or o [])) there in
       let act : TurnedAway k ≡ handling s k = ap (λ o. if is_some o then Accepted k else TurnedAway k) (sym at) in
       let carries : Carries s l.moments m (TurnedAway k) =
-          (packet, c, there, read, subst (λ i. IsReport s m (Verify (verify.Refused i c))) (sym names) (verified s l.moments m (Verify (verify.Refused (id_of_packet packet) c)) h.3.1.packet)) in
+      (packet, c, there, read, subst (λ i. IsReport s m (Verify (verify.Refused i c))) (sym names) (verified s l.moments m (Verify (verify.Refused (id_of_packet packet) c)) h.3.1.packet)) in
       let step = handled-step clock slot rq held l packet k e rq.waiting (TurnedAway k) (Some (Verify (verify.Refused (id_of_packet packet) c))) m h.3.1 act carries in
       let full = full-is clock slot rq held l packet k e ∙ h.0 in
       let late = late-is clock slot rq held l packet k e ∙ h.1 in
@@ -130,8 +130,8 @@ module _ (clock slot : ℕ) (rq : RequestsHeld) (held : List (Key × Held)) (l :
       let stands = step-stands (core_of clock slot rq held l) (Uplink packet) core fit only b.stands (record { comes = octets; room = full; time = late; step = step }) in
       let waits = waiting-turned (session (core_of clock slot rq held l)) (replicate (k - length rq.packets) [] ++ packet ∷ []) l.moments m k next (inr h.3.1.act_is) rq.waiting h.3.1.act_is b.waits in
       let P : LogParts → Type 0 = λ x.
-          Answers (core_of clock slot rq held l) (Uplink packet) (core_of clock slot (record { packets = with_request rq.packets k packet; waiting = rq.waiting }) held x) (Ok count)
-          × IsBoard (core_of clock slot (record { packets = with_request rq.packets k packet; waiting = rq.waiting }) held x) rq.waiting in
+      Answers (core_of clock slot rq held l) (Uplink packet) (core_of clock slot (record { packets = with_request rq.packets k packet; waiting = rq.waiting }) held x) (Ok count)
+      × IsBoard (core_of clock slot (record { packets = with_request rq.packets k packet; waiting = rq.waiting }) held x) rq.waiting in
       subst P (sym h.3.2) ((full, late, h.2 ∙ planned-one, step), record { stands = stands; waits = waits; room = let some = h.0 in grind (arith, nat_tests) })
     where
       planned-one : 1 ≡ length (planned (core_of clock slot rq held l) (Uplink packet))
@@ -152,17 +152,20 @@ none-handled c packet e room =
     let plans : planned c (Uplink packet) ≡ [] = ap (packet_plans c packet) e in
     let full : steps.is_full c (Uplink packet) ≡ false = ap (λ (xs : List Plan). nat_lt 1048576 (length c.moments + length xs)) plans ∙ not-full (length c.moments) room in
     let late : steps.is_late c (Uplink packet) ≡ false =
-        ap₂ (λ (xs : List Plan) (x : Core). (nat_lt 0 (length xs) && nat_lt (greatest_tag c.tailoring + 1) (next_tag x.clock c.moments + length xs)) || (false && nat_lt (greatest_tag c.tailoring) x.clock)) plans core-is in
-    (full, late, sym (ap length plans),
-    record {
-      tailoring = refl;
-      clock = ap (λ (x : Core). x.clock) (sym core-is);
-      requests = ap (λ (x : Core). x.requests) (sym core-is);
-      slot_now = refl;
-      one_shots = λ key. refl;
-      moments = subst (λ (x : Core). AreNext (session x) x.clock c.slot_now c.moments (planned c (Uplink packet)) c.moments) (sym core-is)
-          (subst (λ xs. AreNext (session c) c.clock c.slot_now c.moments xs c.moments) (sym plans) refl);
-    })
+    ap₂ (λ (xs : List Plan) (x : Core). (nat_lt 0 (length xs) && nat_lt (greatest_tag c.tailoring + 1) (next_tag x.clock c.moments + length xs)) || (false && nat_lt (greatest_tag c.tailoring) x.clock)) plans core-is in (
+      full,
+      late,
+      sym (ap length plans),
+      record {
+        tailoring = refl;
+        clock = ap (λ (x : Core). x.clock) (sym core-is);
+        requests = ap (λ (x : Core). x.requests) (sym core-is);
+        slot_now = refl;
+        one_shots = λ key. refl;
+        moments = subst (λ (x : Core). AreNext (session x) x.clock c.slot_now c.moments (planned c (Uplink packet)) c.moments) (sym core-is)
+            (subst (λ xs. AreNext (session c) c.clock c.slot_now c.moments xs c.moments) (sym plans) refl);
+      },
+    )
   where
     not-full : (n : ℕ) → n ≤ 1048576 → nat_lt 1048576 (n + 0) ≡ false
     not-full n le = grind (arith, nat_tests)

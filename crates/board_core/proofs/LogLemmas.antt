@@ -121,7 +121,7 @@ pub read-back : (t : TailoringParts) (r : Report) (octets : List ℕ) → octets
     → (protocol t).reception octets ≡ readable r
 read-back t r octets spelled own e =
     let long : length octets ≡ 13 + time_octets t + length (report_body_octets t r.body) + checksum_octets t.widths.tm_checksum =
-        ap length spelled ∙ report_length t.widths.tm_checksum (time_octets t) r.header (report_body_octets t r.body) in
+    ap length spelled ∙ report_length t.widths.tm_checksum (time_octets t) r.header (report_body_octets t r.body) in
     let enough : nat_lt (length octets) 6 ≡ false = grind (arith, nat_tests) in
     let same : process octets ≡ t.widths.apid = sym (report-process t octets r e) ∙ own in
     ap (λ b. reception_from t octets (if b then None else Some (process octets))) enough
@@ -162,7 +162,7 @@ told-drafted l act body tag packet h old new d is early header told octets clock
     let m : Moment = record { tag = tag; act = act; packet = packet } in
     let more = ap (drafted l) pushed ∙ drafted-more l old.moments.items m in
     let read : (protocol l.tailoring).reception packet ≡ readable (record { header = header_of (protocol l.tailoring) (drafted l old.moments.items) tag body; body = body }) =
-        told ∙ ap (λ x. readable (record { header = x; body = body })) header in
+    told ∙ ap (λ x. readable (record { header = x; body = body })) header in
     record {
       moment = m;
       added = record { tag = is ∙ ap (λ n. max old.clock (n + 1)) d.last_is; act_is = refl; packet = read; octets = octets };

@@ -35,7 +35,6 @@ use Rattle.board_steps.proofs.GrammarLemmas.{RequestsOnly}
 use Rattle.board_steps.proofs.RunLemmas.{step-stands}
 use Rattle.board_core.proofs.UplinkLemmas.{verified}
 use Rattle.board_core.proofs.WorkedLemmas.{worked-first, worked-none, waiting-ended, work-planned, work-full, work-late, work-step}
-
 use Rattle.std.specs.Prelude.{is_some, IsSome}
 use Rattle.pus_messages.specs.Instructions.{Instruction}
 use Rattle.report_structures.specs.declared.refusal.Refusal.{Refusal}
@@ -85,7 +84,7 @@ module _ (clock slot : ℕ) (rq : RequestsHeld) (held : List (Key × Held)) (l :
       let one = each.each.0 in
       let body : ReportBody = Verify (verify.NotStarted w.id (cause_of r)) in
       let carries : Carries s l.moments m (NotStarted k) =
-          (t.instruction, cause_of r, alone, (r, t.refused, refl), subst (λ i. IsReport s m (Verify (verify.NotStarted i (cause_of r)))) one.id (verified s l.moments m body h.3.1.packet)) in
+      (t.instruction, cause_of r, alone, (r, t.refused, refl), subst (λ i. IsReport s m (Verify (verify.NotStarted i (cause_of r)))) one.id (verified s l.moments m body h.3.1.packet)) in
       let step = work-step clock slot rq held l k (NotStarted k) first acts (λ tag. refl) ws (Some body) m h.3.1 carries in
       let full = work-full clock slot rq held l k (NotStarted k) first acts (λ tag. refl) ∙ h.0 in
       let late = work-late clock slot rq held l k (NotStarted k) first acts (λ tag. refl) ∙ h.1 in
@@ -95,7 +94,9 @@ module _ (clock slot : ℕ) (rq : RequestsHeld) (held : List (Key × Held)) (l :
       let number : request_number m.act ≡ Some k = ap request_number h.3.1.act_is in
       let waiting = waiting-ended s l.moments m k own number (λ j. ap (refused_number j) h.3.1.act_is) w ws refl (ap (λ a. is_pending (Some a)) h.3.1.act_is) each in
       let P : LogParts → Type 0 = λ x.
-          Answers (core_of clock slot rq held l) Work (core_of clock slot (record { packets = rq.packets; waiting = ws }) held x) (Ok count)
-          × IsBoard (core_of clock slot (record { packets = rq.packets; waiting = ws }) held x) ws in
-      subst P (sym h.3.2) ((full, late, h.2 ∙ sym (ap length (work-planned clock slot rq held l k (NotStarted k) first acts (λ tag. refl))), step),
-          record { stands = stands; waits = waiting; room = let some = h.0 in grind (arith, nat_tests) })
+      Answers (core_of clock slot rq held l) Work (core_of clock slot (record { packets = rq.packets; waiting = ws }) held x) (Ok count)
+      × IsBoard (core_of clock slot (record { packets = rq.packets; waiting = ws }) held x) ws in
+      subst P (sym h.3.2) (
+        (full, late, h.2 ∙ sym (ap length (work-planned clock slot rq held l k (NotStarted k) first acts (λ tag. refl))), step),
+        record { stands = stands; waits = waiting; room = let some = h.0 in grind (arith, nat_tests) },
+      )

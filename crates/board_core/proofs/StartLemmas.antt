@@ -86,8 +86,8 @@ module _ (clock slot : ℕ) (rq : RequestsHeld) (held : List (Key × Held)) (l :
       let due = ap (λ o. option_map_or (λ x. x.header.flags / 2 ^ 1 % 2 == 1) o false) one.request in
       let told = subst (λ x. IsPacket s.protocol l.moments m.tag x m.packet) is h.3.1.packet in
       let carries : Carries s l.moments m (Started k) =
-          subst (λ d. VerifiesIf d s m (verify.Started (request_id s k))) (sym due)
-          (subst (λ i. VerifiesIf (asks w.request Start) s m (verify.Started i)) one.id (verifies s l.moments m (asks w.request Start) (verify.Started w.id) told)) in
+      subst (λ d. VerifiesIf d s m (verify.Started (request_id s k))) (sym due)
+      (subst (λ i. VerifiesIf (asks w.request Start) s m (verify.Started i)) one.id (verifies s l.moments m (asks w.request Start) (verify.Started w.id) told)) in
       let step = work-step clock slot rq held l k (Started k) first acts (λ tag. refl) (v ∷ ws) body m h.3.1 carries in
       let full = work-full clock slot rq held l k (Started k) first acts (λ tag. refl) ∙ h.0 in
       let late = work-late clock slot rq held l k (Started k) first acts (λ tag. refl) ∙ h.1 in
@@ -108,10 +108,12 @@ module _ (clock slot : ℕ) (rq : RequestsHeld) (held : List (Key × Held)) (l :
       } in
       let waiting = waiting-on s l.moments m k own number (λ j. ap (refused_number j) h.3.1.act_is) w v ws refl refl new each in
       let P : LogParts → Type 0 = λ x.
-          Answers (core_of clock slot rq held l) Work (core_of clock slot (record { packets = rq.packets; waiting = v ∷ ws }) held x) (Ok count)
-          × IsBoard (core_of clock slot (record { packets = rq.packets; waiting = v ∷ ws }) held x) (v ∷ ws) in
-      subst P (sym h.3.2) ((full, late, h.2 ∙ sym (ap length (work-planned clock slot rq held l k (Started k) first acts (λ tag. refl))), step),
-          record { stands = stands; waits = waiting; room = let some = h.0 in grind (arith, nat_tests) })
+      Answers (core_of clock slot rq held l) Work (core_of clock slot (record { packets = rq.packets; waiting = v ∷ ws }) held x) (Ok count)
+      × IsBoard (core_of clock slot (record { packets = rq.packets; waiting = v ∷ ws }) held x) (v ∷ ws) in
+      subst P (sym h.3.2) (
+        (full, late, h.2 ∙ sym (ap length (work-planned clock slot rq held l k (Started k) first acts (λ tag. refl))), step),
+        record { stands = stands; waits = waiting; room = let some = h.0 in grind (arith, nat_tests) },
+      )
 
   -- a request that isn't started now, since there is no room or no time
   pub not-started : (body : Option ReportBody) (fault : BoardFault) (after : LogParts) → AnswersOne l clock (Started w.number) body after (Err fault)

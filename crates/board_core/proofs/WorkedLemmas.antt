@@ -70,7 +70,7 @@ worked-first c w ws h =
     find-first (λ k. is_pending (last_act k c.moments)) 0 (length c.requests) w.number (omega arith) (let lt = h.each.0.known in omega (arith, lt))
     (stage-pending w.number w.started w.executed (last_act w.number c.moments) h.each.0.stage)
     (λ j low lt. not-pending (is_pending (last_act j c.moments))
-        (λ p. true_is_not_false (sym (h.all j p) ∙ none-below j (w ∷ ws) (lt, below-all j w.number ws lt h.order.0))))
+    (λ p. true_is_not_false (sym (h.all j p) ∙ none-below j (w ∷ ws) (lt, below-all j w.number ws lt h.order.0))))
 
 -- nothing is worked on where nothing waits
 pub worked-none : (c : Core) → AreWaiting (session c) c.moments [] → worked_request c ≡ None

@@ -33,17 +33,20 @@ none-waits c h room =
     let plans : planned c Work ≡ [] = ap (work_plans c) none in
     let full : steps.is_full c Work ≡ false = ap (λ (xs : List Plan). nat_lt 1048576 (length c.moments + length xs)) plans ∙ not-full (length c.moments) room in
     let late : steps.is_late c Work ≡ false =
-        ap (λ (xs : List Plan). (nat_lt 0 (length xs) && nat_lt (greatest_tag c.tailoring + 1) (next_tag c.clock c.moments + length xs)) || (false && nat_lt (greatest_tag c.tailoring) c.clock)) plans in
-    let done : worked_done c ≡ [] = ap (λ o. done_of (session c) (next_tag c.clock c.moments) (acts_of c o)) none in
-    (full, late, sym (ap length plans),
-    record {
-      tailoring = refl;
-      clock = refl;
-      requests = refl;
-      slot_now = refl;
-      one_shots = λ key. sym (ap (one_shot_by c key) done);
-      moments = subst (λ xs. AreNext (session c) c.clock c.slot_now c.moments xs c.moments) (sym plans) refl;
-    })
+    ap (λ (xs : List Plan). (nat_lt 0 (length xs) && nat_lt (greatest_tag c.tailoring + 1) (next_tag c.clock c.moments + length xs)) || (false && nat_lt (greatest_tag c.tailoring) c.clock)) plans in
+    let done : worked_done c ≡ [] = ap (λ o. done_of (session c) (next_tag c.clock c.moments) (acts_of c o)) none in (
+      full,
+      late,
+      sym (ap length plans),
+      record {
+        tailoring = refl;
+        clock = refl;
+        requests = refl;
+        slot_now = refl;
+        one_shots = λ key. sym (ap (one_shot_by c key) done);
+        moments = subst (λ xs. AreNext (session c) c.clock c.slot_now c.moments xs c.moments) (sym plans) refl;
+      },
+    )
   where
     not-full : (n : ℕ) → n ≤ 1048576 → nat_lt 1048576 (n + 0) ≡ false
     not-full n le = grind (arith, nat_tests)

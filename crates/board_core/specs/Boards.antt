@@ -1,24 +1,18 @@
 -- What a board holds, and what it means.
-use Rattle.std.specs.Prelude.{◌≡◌, ◌≤◌, ℕ, List, length, filter_map, Option, option_map}
+use Rattle.std.specs.Prelude.{◌≡◌, ◌≤◌, ◌^◌, ⊤, ℕ, List, length}
 use Rattle.hk_base.specs.declared.types.Key.{Key}
 use Rattle.board_steps.specs.Cores.{Core, session}
 use Rattle.hk_world.specs.Timelines.{done_instructions}
 use Rattle.board_core.specs.Logs.{LogParts}
-use Rattle.board_state.specs.Holdings.{AreStructures}
+use Rattle.board_state.specs.Holdings.{AreStructures, one_shots_of}
 use Rattle.board_steps.specs.Timeline.{Stands}
 use Rattle.board_state.specs.Values.{AreValues}
+use Rattle.board_steps.specs.declared.event.Event.{Event}
+use Rattle.board_steps.specs.declared.event.Event.TheVariants.{Uplink}
 use Rattle.board_state.specs.Waiting.{RequestsHeld, AreWaiting}
 use Rattle.board_state.specs.declared.channels.Channel.{Channel}
 use Rattle.board_state.specs.declared.running.Running.{Running}
 use Rattle.board_state.specs.declared.structures.Held.{Held}
-
--- the pending one-shot of a structure that is held
-abbrev pub one_shot_of : Key × Held → Option (Key × ℕ)
-one_shot_of x = option_map (λ first. (x.0, first)) x.1.one_shot
-
--- the pending one-shots of the structures that are held
-abbrev pub one_shots_of : List (Key × Held) → List (Key × ℕ)
-one_shots_of held = filter_map one_shot_of held
 
 -- the core that a board is
 abbrev pub core_of : ℕ → ℕ → RequestsHeld → List (Key × Held) → LogParts → Core
@@ -43,3 +37,8 @@ pub record IsWhole (c : Core) (waiting : List Running) (held : List (Key × Held
   pub board : IsBoard c waiting
   pub structures : AreStructures c.tailoring (done_instructions (session c) c.moments) held
   pub values : AreValues (session c) c.moments channels
+
+-- an event whose octets, if it has any, are no more than 2^31
+abbrev pub IsSmall : Event → Type 0
+IsSmall (Uplink packet) = length packet ≤ 2 ^ 31
+IsSmall _ = ⊤

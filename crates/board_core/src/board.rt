@@ -1,16 +1,15 @@
 //! The core: what is kept of all that was done, and its accessors.
 ghost use Rattle.std.specs.Prelude.{◌≡◌, ◌≤◌, ◌^◌, length, reverse, Ok, IfOk};
 ghost use Rattle.std.specs.Option.{option_copied};
-ghost use Rattle.board_steps.specs.Cores.{state_of};
-ghost use Rattle.board_steps.specs.Steps.{Answers};
-ghost use Rattle.board_steps.specs.declared.event.Event.TheVariants.{Clock};
+ghost use Rattle.board_steps.specs.Cores.{state_of, new_core};
+ghost use Rattle.board_steps.specs.Slots.{is_filed};
+ghost use Rattle.board_steps.specs.Steps.{Answers, IsEvent, MayFile};
+ghost use Rattle.board_steps.specs.declared.event.Event.TheVariants.{Clock, Filing};
+ghost use Rattle.board_core.specs.Boards.{IsSmall};
 
-use board_state::Channels;
-use board_steps::{BoardFault, Event, Sample};
 use crate::log::Log;
-use board_state::Members;
-use board_state::Requests;
-use board_state::Structures;
+use board_state::{Channels, Members, Requests, Structures};
+use board_steps::{BoardFault, Event, Sample};
 use hk_base::{Key, Memory, Structure, Tailoring, Value};
 use hk_world::{Act, Journal};
 use std::alloc::Global;
@@ -42,7 +41,9 @@ impl Model for BoardCore {
 
 impl BoardCore {
     /// A board at boot. The windows take their memory here.
-    pub fn new(alloc: Global, tailoring: Tailoring) -> Result<BoardCore, Memory> {
+    pub fn new(alloc: Global, tailoring: Tailoring) -> Result<BoardCore, Memory>
+        ensures { IfOk result (λ core. core ≡ new_core tailoring) }
+    {
         Ok(BoardCore {
             alloc,
             clock: 0,
@@ -56,7 +57,11 @@ impl BoardCore {
     }
 
     /// Does what an event asks, and gives the number of new moments. After a fault all is as it was.
-    pub fn step(&mut self, event: Event) -> Result<u32, BoardFault> {
+    pub fn step(&mut self, event: Event) -> Result<u32, BoardFault>
+        requires comes { IsEvent self.old event }
+        requires small { IsSmall event }
+        ensures { Answers self.old event self.new result }
+    {
         match event {
             Event::Uplink(octets) => self.uplink(octets),
             Event::Clock(tag) => Ok(self.set_clock(tag)),
@@ -73,13 +78,17 @@ impl BoardCore {
         self.structures.structure(key)
     }
 
-    /// The value of a parameter.
-    pub fn value(&self, param: u32) -> Option<Value> {
+    /// The value of the parameter with this ID.
+    pub fn value(&self, param: u32) -> Option<Value>
+        ensures { result ≡ (state_of self.now).value param }
+    {
         self.channels.value(param)
     }
 
     /// Whether the parameter has a sample in the slot that runs.
-    pub fn filed(&self, param: u32) -> bool {
+    pub fn filed(&self, param: u32) -> bool
+        ensures { result ≡ is_filed self.now param }
+    {
         self.channels.is_filed(param, self.slot_now)
     }
 
@@ -95,13 +104,15 @@ impl BoardCore {
         self.requests.waiting()
     }
 
-    /// What was done.
+    /// What was done, the oldest moment first.
     pub fn journal(&self) -> &Journal
-        ensures { reverse result.now ≡ self.now.moments }
+        ensures moments { reverse result.now ≡ self.now.moments }
+        ensures most { length self.now.moments ≤ 1048576 }
     {
         self.log.journal()
     }
 
+    /// What the board is built for.
     pub fn tailoring(&self) -> &Tailoring
         ensures { result.now ≡ self.now.tailoring }
     {
@@ -117,7 +128,10 @@ impl BoardCore {
     }
 
     /// Files a sample of a sensed parameter.
-    fn file(&mut self, sample: Sample) -> Result<u32, BoardFault> {
+    fn file(&mut self, sample: Sample) -> Result<u32, BoardFault>
+        requires { MayFile self.old sample }
+        ensures { Answers self.old (Filing sample) self.new result }
+    {
         let Sample { param, slot, value } = sample;
         let act = Act::Filed(param, slot, value);
         let count = self.log.add_one(self.clock, act, None)?;

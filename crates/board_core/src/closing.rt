@@ -1,7 +1,10 @@
 //! The end of a slot: the values of settable parameters are filed, and what is due is reported.
+ghost use Rattle.board_steps.specs.Steps.{Answers};
+ghost use Rattle.board_steps.specs.declared.event.Event.TheVariants.{CloseSlot};
+
 use crate::board::BoardCore;
-use board_steps::BoardFault;
 use crate::log::Draft;
+use board_steps::BoardFault;
 use hk_base::{Definition, Items, Key, Memory, Octets, Value, greatest_tag};
 use hk_world::Act;
 use pus_messages::ReportBody;
@@ -18,7 +21,9 @@ struct Due {
 
 impl BoardCore {
     /// Ends the slot that runs.
-    pub(crate) fn close_slot(&mut self) -> Result<u32, BoardFault> {
+    pub(crate) fn close_slot(&mut self) -> Result<u32, BoardFault>
+        ensures { Answers self.old CloseSlot self.new result }
+    {
         let slot = self.log.tailoring().widths().slot;
         let clock = self.clock.max((self.slot_now + 1) * slot);
         let settings = self.channels.settings(self.alloc)?;

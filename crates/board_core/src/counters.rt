@@ -7,12 +7,12 @@ ghost use Rattle.pus_messages.specs.Spelling.{report_type};
 ghost use Rattle.board_steps.specs.Cores.{header_of};
 ghost use Rattle.board_core.specs.Counts.{AreCounts, counted, type_place, verification_place};
 
+use hk_base::{Kind, Tailoring};
 use pus_messages::ReportBody;
+use pus_packet::TmHeader;
 use st01_reports::Verification;
 use st03_grammar::Report03;
 use st04_grammar::Report04;
-use hk_base::{Kind, Tailoring};
-use pus_packet::TmHeader;
 
 /// How many message types of reports there are.
 const TYPES: usize = 18;

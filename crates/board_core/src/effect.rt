@@ -1,7 +1,6 @@
 //! What an instruction does in the present state.
 use crate::board::BoardCore;
-use board_state::{Instruction, StatisticsChange};
-use board_state::MOST_MEMBERS;
+use board_state::{Instruction, MOST_MEMBERS, StatisticsChange};
 use hk_base::{Items, Key, Memory, Structure};
 use report_structures::{ApplyFault, Refusal, apply};
 use st03_grammar::{Change, Each};
@@ -69,8 +68,7 @@ impl BoardCore {
     fn statistics_effect(&self, change: StatisticsChange) -> Effect {
         match change {
             StatisticsChange::Add(id)
-                if !self.members.has(id) && self.members.len() >= MOST_MEMBERS =>
-            {
+                if !self.members.has(id) && self.members.len() >= MOST_MEMBERS => {
                 Effect::Refused(Refusal::TooMany(256))
             }
             StatisticsChange::Delete(id) if !self.members.has(id) => {

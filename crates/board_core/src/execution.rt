@@ -5,11 +5,10 @@ ghost use Rattle.board_steps.specs.declared.event.Event.TheVariants.{Work};
 
 use crate::board::BoardCore;
 use crate::effect::Effect;
-use board_steps::BoardFault;
-use board_state::StatisticsChange;
 use crate::log::Draft;
-use board_state::Running;
 use crate::work::progress;
+use board_state::{Running, StatisticsChange};
+use board_steps::BoardFault;
 use hk_base::{Items, Key, Memory, Structure, slot_of};
 use hk_world::Act;
 use pus_messages::ReportBody;
@@ -46,12 +45,7 @@ impl BoardCore {
     /// Adds the report that an effect orders.
     fn add_ordered(&self, effect: &Effect, draft: &mut Draft) -> Result<(), Memory> {
         match self.ordered_report(effect, draft.next_tag())? {
-            Some(body) => draft.add(
-                self.alloc,
-                self.log.tailoring(),
-                Act::Emitted,
-                Some(body),
-            ),
+            Some(body) => draft.add(self.alloc, self.log.tailoring(), Act::Emitted, Some(body)),
             None => Ok(()),
         }
     }
@@ -103,9 +97,7 @@ impl BoardCore {
     fn definitions_report(&self) -> Result<ReportBody, Memory> {
         let (enabled, interval) = (self.members.enabled, self.members.interval);
         let params = self.members.params(self.alloc)?;
-        Ok(ReportBody::Stat(Report04::Definitions(
-            enabled, interval, params,
-        )))
+        Ok(ReportBody::Stat(Report04::Definitions(enabled, interval, params)))
     }
 
     fn values_report(&self, ids: &[u32]) -> Result<ReportBody, Memory> {
@@ -149,12 +141,7 @@ impl BoardCore {
     }
 
     /// A new structure, for which the memory is taken first.
-    fn create(
-        &mut self,
-        key: Key,
-        structure: Structure,
-        draft: Draft,
-    ) -> Result<u32, BoardFault> {
+    fn create(&mut self, key: Key, structure: Structure, draft: Draft) -> Result<u32, BoardFault> {
         let first_slot = self.next_slot();
         self.structures.create(key, structure, first_slot)?;
         match self.log.commit(draft) {

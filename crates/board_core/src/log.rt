@@ -7,8 +7,8 @@ ghost use Rattle.board_core.specs.Logs as logs;
 ghost use Rattle.board_core.specs.Logs.{LogParts, IsDraft, IsDrafted, IsWritable, AnswersDraft, AnswersOne, drafted, with_moments};
 
 use crate::counters::Counters;
-use board_steps::BoardFault;
 use crate::packets::packet_of;
+use board_steps::BoardFault;
 use hk_base::{Items, Memory, Octets, Tailoring, greatest_tag};
 use hk_world::{Act, Journal, MOST_MOMENTS, Moment};
 use pus_messages::{Report, ReportBody};

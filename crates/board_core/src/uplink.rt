@@ -10,8 +10,8 @@ ghost use Rattle.board_steps.specs.declared.event.Event.TheVariants.{Uplink};
 
 use crate::board::BoardCore;
 use crate::causes::{body_cause, unknown_type};
-use board_steps::BoardFault;
 use board_state::{Asked, Running, packet_id};
+use board_steps::BoardFault;
 use hk_base::Octets;
 use hk_world::Act;
 use pus_messages::{MessageFault, ReportBody, Request, read_request, requests_are_spelled};
@@ -80,12 +80,7 @@ impl BoardCore {
         }
     }
 
-    fn accept(
-        &mut self,
-        number: u64,
-        octets: Octets,
-        request: Request,
-    ) -> Result<u32, BoardFault>
+    fn accept(&mut self, number: u64, octets: Octets, request: Request) -> Result<u32, BoardFault>
         requires long { 11 ≤ length octets }
         requires octets { AreOctets octets }
         requires number { plans.handled_as self.old octets ≡ Some number }
@@ -110,12 +105,7 @@ impl BoardCore {
         }
     }
 
-    fn turn_away(
-        &mut self,
-        number: u64,
-        octets: Octets,
-        cause: Cause,
-    ) -> Result<u32, BoardFault>
+    fn turn_away(&mut self, number: u64, octets: Octets, cause: Cause) -> Result<u32, BoardFault>
         requires long { 11 ≤ length octets }
         requires octets { AreOctets octets }
         requires number { plans.handled_as self.old octets ≡ Some number }

@@ -22,7 +22,7 @@ use Rattle.hk_world.specs.Timelines.{Session, Done, request_at, done_by, done_at
 use Rattle.hk_world.specs.declared.moment.Moment.{Moment}
 use Rattle.hk_world.specs.declared.moment.Act.{Act}
 use Rattle.hk_world.specs.declared.moment.Act.TheVariants.{Accepted, TurnedAway}
-use Rattle.board_state.specs.Holdings.{held_at, held_structure, ChangesAt, IsHeld, AreStructures}
+use Rattle.board_state.specs.Holdings.{held_at, held_structure, ChangesAt, IsHeld, AreRisingKeys, AreStructures}
 use Rattle.board_state.specs.declared.structures.Held.{Held}
 
 -- the slot after the last instruction that passes a test stays where one more doesn't pass it
@@ -57,6 +57,7 @@ other-done t done d held other h =
     record {
       each = λ key. each key (held_at held key) (h.each key);
       same = λ key. h.same key ∙ sym (left key d.instruction other (structure_after t (boot_state t) done key));
+      rising = h.rising;
     }
   where
     left : (key : Key) (x : Instruction) → IsOther x → (before : Option Structure) → structure_left t x key before ≡ before
@@ -74,7 +75,7 @@ other-done t done d held other h =
     each : (key : Key) (o : Option Held) → IfSome o (IsHeld t done key) → IfSome o (IsHeld t (d ∷ done) key)
     each key None k = tt
     each key (Some x) k =
-        record { formed = k.formed; id = k.id; first = k.first ∙ sym (slot-stays t (begins_intervals_of key) done d (begins key d.instruction other)) }
+        record { valid = k.valid; id = k.id; first = k.first ∙ sym (slot-stays t (begins_intervals_of key) done d (begins key d.instruction other)); small = k.small }
 
 -- what is held under its key after a change that is done: the structure that it leaves, with its first slot
 pub record Becomes (t : TailoringParts) (done : List Done) (key : Key) (state : Option Structure) (to : Option Held) : Type 0 where
@@ -84,9 +85,9 @@ pub record Becomes (t : TailoringParts) (done : List Done) (key : Key) (state : 
 -- a change of a structure that is done, and that is made to what is held under its key
 pub structure-done : (t : TailoringParts) (done : List Done) (d : Done) (key : Key) (change : StructureChange) (state : Option Structure) (to : Option Held) (old new : List (Key × Held))
     → d.instruction ≡ on_structure key change → effect t change (structure_after t (boot_state t) done key) ≡ Ok state
-    → Becomes t (d ∷ done) key state to → ChangesAt key to old new → AreStructures t done old → AreStructures t (d ∷ done) new
-structure-done t done d key change state to old new e f becomes changes h =
-    record { each = λ other. each other (key_eq key other) refl; same = λ other. same other (key_eq key other) refl }
+    → Becomes t (d ∷ done) key state to → ChangesAt key to old new → AreRisingKeys new → AreStructures t done old → AreStructures t (d ∷ done) new
+structure-done t done d key change state to old new e f becomes changes rising h =
+    record { each = λ other. each other (key_eq key other) refl; same = λ other. same other (key_eq key other) refl; rising = rising }
   where
     left : (other : Key) (b : Bool) → key_eq key other ≡ b → structure_after t (boot_state t) (d ∷ done) other ≡ (if b then left_by t change (structure_after t (boot_state t) done other) else structure_after t (boot_state t) done other)
     left other b q =
@@ -113,7 +114,8 @@ structure-done t done d key change state to old new e f becomes changes h =
         go None k = tt
         go (Some x) k =
             record {
-              formed = k.formed;
+              valid = k.valid;
               id = k.id;
               first = k.first ∙ sym (slot-stays t (begins_intervals_of other) done d (ap (begins_intervals_of other) e ∙ ap (λ b. b && begins_intervals change) q));
+              small = k.small;
             }

@@ -1,5 +1,5 @@
 -- The requests that wait: those that were accepted and haven't ended, in the order of their numbers.
-use Rattle.std.specs.Prelude.{◌≡◌, ℕ, zero, suc, ◌/◌, ◌%◌, ◌^◌, ◌<◌, ◌≤◌, ⊤, List, [], ◌∷◌, ◌++◌, length, Bool, true, false, ◌==◌, Option, Some, IsTrue}
+use Rattle.std.specs.Prelude.{◌≡◌, ℕ, zero, suc, ◌+◌, ◌-◌, take, ◌/◌, ◌%◌, ◌^◌, ◌<◌, ◌≤◌, ⊤, List, [], ◌∷◌, ◌++◌, length, Bool, true, false, ◌==◌, Option, Some, IsTrue}
 use Rattle.std.specs.List.{AllByRecursion, list_any}
 use Rattle.pus_messages.specs.Instructions.{instructions}
 use Rattle.pus_messages.specs.declared.message.Request.{Request}
@@ -75,3 +75,27 @@ pub record AreWaiting (s : Session) (moments : List Moment) (waiting : List Runn
 abbrev pub first_started : List Running → List Running
 first_started [] = []
 first_started (w ∷ ws) = record w { started = true } ∷ ws
+
+-- one more instruction of the first of the requests was done
+abbrev pub first_done : List Running → List Running
+first_done [] = []
+first_done (w ∷ ws) = record w { executed = w.executed + 1 } ∷ ws
+
+-- a request of which so many instructions were executed, and these refused
+pub record IsWith (w : Running) (executed : ℕ) (refused : List ℕ) (v : Running) : Type 0 where
+  pub number : v.number ≡ w.number
+  pub id : v.id ≡ w.id
+  pub request : v.request ≡ w.request
+  pub started : v.started ≡ w.started
+  pub executed_is : v.executed ≡ executed
+  pub refused_are : v.refused.items ≡ refused
+
+-- one more instruction of the first of the requests was refused
+abbrev pub IsFirstRefused : List Running → List Running → Type 0
+IsFirstRefused [] now = now ≡ []
+IsFirstRefused (w ∷ ws) now = (v : Running) × (now ≡ v ∷ ws) × IsWith w (w.executed + 1) (w.refused.items ++ (w.executed + 1) ∷ []) v
+
+-- the last instruction of the first of the requests wasn't refused, after all
+abbrev pub IsFirstTakenBack : List Running → List Running → Type 0
+IsFirstTakenBack [] now = now ≡ []
+IsFirstTakenBack (w ∷ ws) now = (v : Running) × (now ≡ v ∷ ws) × IsWith w (w.executed - 1) (take (length w.refused.items - 1) w.refused.items) v

@@ -3,7 +3,7 @@ ghost use Rattle.std.specs.Prelude.{◌≡◌, ◌≤◌, ◌<◌, ◌+◌, ◌-
 ghost use Rattle.std.specs.Option.{option_copied};
 ghost use Rattle.pus_messages.specs.Instructions.{instructions};
 ghost use Rattle.board_steps.specs.Plans.{with_request};
-ghost use Rattle.board_state.specs.Waiting.{RequestsHeld, Stays, first_started};
+ghost use Rattle.board_state.specs.Waiting.{RequestsHeld, Stays, first_started, first_done, IsFirstRefused, IsFirstTakenBack};
 
 use crate::running::Running;
 use hk_base::{Memory, Octets};
@@ -88,9 +88,7 @@ impl Requests {
         ensures err { OnErr result (self.new ≡ self.old) }
     {
         let kept = self.packets.len();
-        if let Err(memory) =
-            append_packet(self.alloc, &mut self.packets, running.number, packet)
-        {
+        if let Err(memory) = append_packet(self.alloc, &mut self.packets, running.number, packet) {
             self.packets.truncate(kept);
             return Err(memory);
         }
@@ -128,14 +126,22 @@ impl Requests {
     }
 
     /// An instruction of the request that is worked on was done.
-    pub fn count_done(&mut self) {
+    pub fn count_done(&mut self)
+        requires { IfSome (slice_get self.old.waiting 0) (λ w. w.executed < 255) }
+        ensures { self.new ≡ record self.old { waiting = first_done self.old.waiting } }
+    {
         if let Some(running) = self.waiting.get_mut(0) {
             running.executed += 1;
         }
     }
 
     /// An instruction of the request that is worked on was refused.
-    pub fn count_refused(&mut self) -> Result<(), Memory> {
+    pub fn count_refused(&mut self) -> Result<(), Memory>
+        requires { IfSome (slice_get self.old.waiting 0) (λ w. w.executed < 255) }
+        ensures packets { self.new.packets ≡ self.old.packets }
+        ensures ok { OnOk result (IsFirstRefused self.old.waiting self.new.waiting) }
+        ensures err { OnErr result (self.new ≡ self.old) }
+    {
         if let Some(running) = self.waiting.get_mut(0) {
             running.refused.push(running.executed + 1)?;
             running.executed += 1;
@@ -143,8 +149,12 @@ impl Requests {
         Ok(())
     }
 
-    /// No instruction of the request that is worked on was refused, after all.
-    pub fn uncount_refused(&mut self) {
+    /// The last instruction of the request that is worked on wasn't refused, after all.
+    pub fn uncount_refused(&mut self)
+        requires { IfSome (slice_get self.old.waiting 0) (λ w. 1 ≤ w.executed) }
+        ensures packets { self.new.packets ≡ self.old.packets }
+        ensures back { IsFirstTakenBack self.old.waiting self.new.waiting }
+    {
         if let Some(running) = self.waiting.get_mut(0) {
             running.refused.pop();
             running.executed -= 1;

@@ -104,12 +104,7 @@ impl Structures {
     }
 
     /// A new structure.
-    pub fn create(
-        &mut self,
-        key: Key,
-        structure: Structure,
-        first_slot: u64,
-    ) -> Result<(), Memory>
+    pub fn create(&mut self, key: Key, structure: Structure, first_slot: u64) -> Result<(), Memory>
         ensures ok { OnOk result (ChangesAt key (Some (new_held structure first_slot)) self.old self.new) }
         ensures err { OnErr result (self.new ≡ self.old) }
     {

@@ -32,7 +32,7 @@ invariant_of-self c =
     let g = subst (λ (a : Act). AnswersOne b.log b.clock a c.refusal_of-act.result.1 c.add_one.new.self (Ok c.in-Ok.count)) c.refusal_of-act.ensures.0 c.in-Ok.ensures in
     let h = subst (λ x. AnswersOne b.log b.clock (NotStarted w.number) x c.add_one.new.self (Ok c.in-Ok.count)) c.refusal_of-act.ensures.1 g in
     let r = refused b.clock b.slot_now b.requests b.structures b.log w ws waits c.args.refusal (subst IsFit c.tailoring.ensures c.widths-fit.ensures.fit) (c.requests_are_spelled.ensures.only b.log.tailoring) c.self.invariant.board t
-        c.add_one.new.self c.in-Ok.count h in
+    c.add_one.new.self c.in-Ok.count h in
     let before : Core = core_of b.clock b.slot_now b.requests b.structures b.log in
     let plans = refusal-planned b.clock b.slot_now b.requests b.structures b.log w ws waits c.args.refusal (subst IsFit c.tailoring.ensures c.widths-fit.ensures.fit) (c.requests_are_spelled.ensures.only b.log.tailoring) c.self.invariant.board t in
     subst (λ (x : RequestsHeld). IsWhole (core_of b.clock b.slot_now x b.structures c.add_one.new.self) x.waiting b.structures b.channels) (sym c.end_first.ensures)
@@ -48,6 +48,6 @@ returns-in-Ok c =
     let g = subst (λ (a : Act). AnswersOne b.log b.clock a c.refusal_of-act.result.1 c.add_one.new.self (Ok c.in-Ok.count)) c.refusal_of-act.ensures.0 c.in-Ok.ensures in
     let h = subst (λ x. AnswersOne b.log b.clock (NotStarted w.number) x c.add_one.new.self (Ok c.in-Ok.count)) c.refusal_of-act.ensures.1 g in
     let r = refused b.clock b.slot_now b.requests b.structures b.log w ws waits c.args.refusal (subst IsFit c.tailoring.ensures c.widths-fit.ensures.fit) (c.requests_are_spelled.ensures.only b.log.tailoring) c.self.invariant.board t
-        c.add_one.new.self c.in-Ok.count h in
+    c.add_one.new.self c.in-Ok.count h in
     subst (λ (x : Core). Answers x Work (core_of b.clock b.slot_now c.end_first.new.self b.structures c.add_one.new.self) (Ok c.in-Ok.count)) c.self.view_is
     (subst (λ (x : RequestsHeld). Answers (core_of b.clock b.slot_now b.requests b.structures b.log) Work (core_of b.clock b.slot_now x b.structures c.add_one.new.self) (Ok c.in-Ok.count)) (sym c.end_first.ensures) r.0)

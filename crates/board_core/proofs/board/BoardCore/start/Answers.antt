@@ -30,9 +30,9 @@ invariant_of-self c =
     let t = subst IsToStart (sym c.self.view_is) c.requires in
     let h = subst (λ (a : Act). AnswersOne b.log b.clock a c.start_of-act.result.1 c.add_one.new.self (Ok c.in-Ok.count)) c.start_of-act.ensures.0 c.in-Ok.ensures in
     let r = started b.clock b.slot_now b.requests b.structures b.log w ws waits (subst IsFit c.tailoring.ensures c.widths-fit.ensures.fit) (c.requests_are_spelled.ensures.only b.log.tailoring) c.self.invariant.board t
-        c.start_of-act.result.1 c.start_of-act.ensures.1 c.add_one.new.self c.in-Ok.count h in
+    c.start_of-act.result.1 c.start_of-act.ensures.1 c.add_one.new.self c.in-Ok.count h in
     let held : c.start_first.new.self ≡ record { packets = b.requests.packets; waiting = record w { started = true } ∷ ws } =
-        c.start_first.ensures ∙ ap (λ (xs : List Running). record { packets = b.requests.packets; waiting = first_started xs }) waits in
+    c.start_first.ensures ∙ ap (λ (xs : List Running). record { packets = b.requests.packets; waiting = first_started xs }) waits in
     let before : Core = core_of b.clock b.slot_now b.requests b.structures b.log in
     let plans = start-planned b.clock b.slot_now b.requests b.structures b.log w ws waits (subst IsFit c.tailoring.ensures c.widths-fit.ensures.fit) (c.requests_are_spelled.ensures.only b.log.tailoring) c.self.invariant.board t in
     subst (λ (x : RequestsHeld). IsWhole (core_of b.clock b.slot_now x b.structures c.add_one.new.self) x.waiting b.structures b.channels) (sym held)
@@ -47,8 +47,8 @@ returns-in-Ok c =
     let t = subst IsToStart (sym c.self.view_is) c.requires in
     let h = subst (λ (a : Act). AnswersOne b.log b.clock a c.start_of-act.result.1 c.add_one.new.self (Ok c.in-Ok.count)) c.start_of-act.ensures.0 c.in-Ok.ensures in
     let r = started b.clock b.slot_now b.requests b.structures b.log w ws waits (subst IsFit c.tailoring.ensures c.widths-fit.ensures.fit) (c.requests_are_spelled.ensures.only b.log.tailoring) c.self.invariant.board t
-        c.start_of-act.result.1 c.start_of-act.ensures.1 c.add_one.new.self c.in-Ok.count h in
+    c.start_of-act.result.1 c.start_of-act.ensures.1 c.add_one.new.self c.in-Ok.count h in
     let held : c.start_first.new.self ≡ record { packets = b.requests.packets; waiting = record w { started = true } ∷ ws } =
-        c.start_first.ensures ∙ ap (λ (xs : List Running). record { packets = b.requests.packets; waiting = first_started xs }) waits in
+    c.start_first.ensures ∙ ap (λ (xs : List Running). record { packets = b.requests.packets; waiting = first_started xs }) waits in
     subst (λ (x : Core). Answers x Work (core_of b.clock b.slot_now c.start_first.new.self b.structures c.add_one.new.self) (Ok c.in-Ok.count)) c.self.view_is
     (subst (λ (x : RequestsHeld). Answers (core_of b.clock b.slot_now b.requests b.structures b.log) Work (core_of b.clock b.slot_now x b.structures c.add_one.new.self) (Ok c.in-Ok.count)) (sym held) r.0)

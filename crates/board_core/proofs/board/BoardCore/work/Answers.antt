@@ -41,7 +41,7 @@ complete-requires c =
     let waits : b.requests.waiting ≡ w ∷ ws = head-is b.requests.waiting w (sym c.first.ensures.first ∙ ap option_copied c.in-Some.is) in
     subst IsToComplete c.self.view_is
     (to-complete before w ws (c.requests_are_spelled.ensures.only b.log.tailoring) c.self.invariant.board.stands
-        (subst (AreWaiting (session before) before.moments) waits c.self.invariant.board.waits) c.if-not-running.false (sym c.is_executed.ensures ∙ c.if-is_executed.true))
+    (subst (AreWaiting (session before) before.moments) waits c.self.invariant.board.waits) c.if-not-running.false (sym c.is_executed.ensures ∙ c.if-is_executed.true))
 
 pub execute-requires : goal.execute-requires
 execute-requires c =
@@ -52,4 +52,4 @@ execute-requires c =
     let waits : b.requests.waiting ≡ w ∷ ws = head-is b.requests.waiting w (sym c.first.ensures.first ∙ ap option_copied c.in-Some.is) in
     subst IsToExecute c.self.view_is
     (to-execute before w ws (c.requests_are_spelled.ensures.only b.log.tailoring) c.self.invariant.board.stands
-        (subst (AreWaiting (session before) before.moments) waits c.self.invariant.board.waits) c.if-not-running.false (sym c.is_executed.ensures ∙ c.if-is_executed.false))
+    (subst (AreWaiting (session before) before.moments) waits c.self.invariant.board.waits) c.if-not-running.false (sym c.is_executed.ensures ∙ c.if-is_executed.false))

@@ -24,9 +24,11 @@ use Rattle.hk_world.specs.declared.moment.Act.{Act}
 use Rattle.hk_world.specs.declared.moment.Act.TheVariants.{Accepted, TurnedAway}
 use Rattle.board_steps.specs.Cores.{Core, session}
 use Rattle.board_core.specs.Boards.{IsBoard, IsWhole}
+use Rattle.board_state.specs.Statistics.{StatisticsHeld, AreStatistics, IsSettled}
 use Rattle.board_state.specs.Values.{AreValues}
 use Rattle.board_state.specs.declared.channels.Channel.{Channel}
 use Rattle.board_state.proofs.ChannelLemmas.{IsNoFiling, SetsNone, is-valueless, values-still, values-agree}
+use Rattle.board_state.proofs.StatisticsLemmas.{statistics-still, statistics-agree, settled-still, settled-agree}
 use Rattle.board_state.specs.Holdings.{held_at, held_structure, ChangesAt, IsHeld, AreStructures}
 use Rattle.board_steps.specs.Plans.{Plan, does, handled_as, handling, with_request, prepared, planned}
 use Rattle.board_steps.specs.Steps.{AreNext, IsStep}
@@ -63,19 +65,31 @@ silent-values s clock slot earlier after act channels none unfiled h v =
     (values-still s m earlier channels
         (is-valueless s m (subst IsNoFiling (sym h.1.follows.0) unfiled) (subst (λ (o : Option Done). IfSome o (λ d. SetsNone d.instruction)) (sym undone) tt)) v)
 
+-- so it does with what is held of the statistics
+pub silent-statistics : (s : Session) (clock slot : ℕ) (earlier after : List Moment) (act : Act) (x : StatisticsHeld) → ((tag : ℕ) → done_by s tag act ≡ None)
+    → IsNoFiling act → AreNext s clock slot earlier (does act ∷ []) after → IsSettled s earlier → AreStatistics s earlier x → AreStatistics s after x × IsSettled s after
+silent-statistics s clock slot earlier after act x none unfiled h settled v =
+    let m : Moment = h.0 in
+    let undone : done_by s m.tag m.act ≡ None = ap (done_by s m.tag) h.1.follows.0 ∙ none m.tag in
+    subst (λ ms. AreStatistics s ms x × IsSettled s ms) (sym h.2)
+    (statistics-still s m earlier x undone (subst IsNoFiling (sym h.1.follows.0) unfiled) settled v, settled-still s m earlier undone)
+
 -- a step of a request that does no instruction
-pub work-holds : (c after : Core) (waiting ws : List Running) (held : List (Key × Held)) (channels : List (ℕ × Channel)) (act : Act) → planned c Work ≡ does act ∷ []
+pub work-holds : (c after : Core) (waiting ws : List Running) (held : List (Key × Held)) (channels : List (ℕ × Channel)) (statistics : StatisticsHeld) (act : Act) → planned c Work ≡ does act ∷ []
     → ((tag : ℕ) → done_by (session c) tag act ≡ None) → IsNoFiling act
-    → IsStep c Work after → IsBoard after ws → IsWhole c waiting held channels → IsWhole after ws held channels
-work-holds c after waiting ws held channels act plans none unfiled step board h =
+    → IsStep c Work after → IsBoard after ws → IsWhole c waiting held channels statistics → IsWhole after ws held channels statistics
+work-holds c after waiting ws held channels statistics act plans none unfiled step board h =
     let next = subst (λ xs. AreNext (session c) c.clock c.slot_now c.moments xs after.moments) plans step.moments in
     let same : session after ≡ session c = ap₂ session_by step.tailoring step.requests in
     let dones = ap (λ s. done_instructions s after.moments) same ∙ silent-dones (session c) c.clock c.slot_now c.moments after.moments act none next in
+    let told = silent-statistics (session c) c.clock c.slot_now c.moments after.moments act statistics none unfiled next h.settled h.statistics in
     record {
       board = board;
       structures = same-structures c after held step.tailoring dones h.structures;
       values = subst (λ s. AreValues s after.moments channels) (sym same)
           (silent-values (session c) c.clock c.slot_now c.moments after.moments act channels none unfiled next h.values);
+      statistics = subst (λ s. AreStatistics s after.moments statistics) (sym same) told.0;
+      settled = subst (λ s. IsSettled s after.moments) (sym same) told.1;
     }
 
 handling-silent : (s : Session) (k tag : ℕ) → done_by s tag (handling s k) ≡ None
@@ -93,9 +107,9 @@ handling-unfiled s k = go (is_some (request_at s k))
     go false = tt
 
 -- a step that handles a packet
-pub uplink-holds : (c after : Core) (packet : List ℕ) (k : ℕ) (waiting ws : List Running) (held : List (Key × Held)) (channels : List (ℕ × Channel)) → handled_as c packet ≡ Some k
-    → IsStep c (Uplink packet) after → IsBoard after ws → IsWhole c waiting held channels → IsWhole after ws held channels
-uplink-holds c after packet k waiting ws held channels e step board h =
+pub uplink-holds : (c after : Core) (packet : List ℕ) (k : ℕ) (waiting ws : List Running) (held : List (Key × Held)) (channels : List (ℕ × Channel)) (statistics : StatisticsHeld) → handled_as c packet ≡ Some k
+    → IsStep c (Uplink packet) after → IsBoard after ws → IsWhole c waiting held channels statistics → IsWhole after ws held channels statistics
+uplink-holds c after packet k waiting ws held channels statistics e step board h =
     let p : Core = with_packet c packet (Some k) in
     let core-is : prepared c (Uplink packet) ≡ p = ap (with_packet c packet) e in
     let plans : planned c (Uplink packet) ≡ does (handling (session p) k) ∷ [] = ap (packet_plans c packet) e in
@@ -110,10 +124,14 @@ uplink-holds c after packet k waiting ws held channels e step board h =
     let dones = ap (λ s. done_instructions s after.moments) same
         ∙ silent-dones (session p) p.clock c.slot_now c.moments after.moments (handling (session p) k) (handling-silent (session p) k) next ∙ grow in
     let values : AreValues (session p) c.moments channels = values-agree (session c) (c.requests ++ more) c.moments channels agree h.values in
+    let told = silent-statistics (session p) p.clock c.slot_now c.moments after.moments (handling (session p) k) statistics (handling-silent (session p) k) (handling-unfiled (session p) k) next
+        (settled-agree (session c) (c.requests ++ more) c.moments agree h.settled) (statistics-agree (session c) (c.requests ++ more) c.moments statistics agree h.statistics) in
     record {
       board = board;
       structures = same-structures c after held step.tailoring dones h.structures;
       values = subst (λ s. AreValues s after.moments channels) (sym same)
           (silent-values (session p) p.clock c.slot_now c.moments after.moments (handling (session p) k) channels (handling-silent (session p) k)
               (handling-unfiled (session p) k) next values);
+      statistics = subst (λ s. AreStatistics s after.moments statistics) (sym same) told.0;
+      settled = subst (λ s. IsSettled s after.moments) (sym same) told.1;
     }

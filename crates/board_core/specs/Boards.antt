@@ -6,6 +6,7 @@ use Rattle.hk_world.specs.Timelines.{done_instructions}
 use Rattle.board_core.specs.Logs.{LogParts}
 use Rattle.board_state.specs.Holdings.{AreStructures, one_shots_of}
 use Rattle.board_steps.specs.Timeline.{Stands}
+use Rattle.board_state.specs.Statistics.{StatisticsHeld, AreStatistics, IsSettled}
 use Rattle.board_state.specs.Values.{AreValues}
 use Rattle.board_steps.specs.declared.event.Event.{Event}
 use Rattle.board_steps.specs.declared.event.Event.TheVariants.{Uplink}
@@ -32,11 +33,13 @@ pub record IsBoard (c : Core) (waiting : List Running) : Type 0 where
   pub waits : AreWaiting (session c) c.moments waiting
   pub room : length c.moments ≤ 1048576
 
--- so is what is held of the structures and of the parameters
-pub record IsWhole (c : Core) (waiting : List Running) (held : List (Key × Held)) (channels : List (ℕ × Channel)) : Type 0 where
+-- so is what is held of the structures, of the parameters and of the statistics
+pub record IsWhole (c : Core) (waiting : List Running) (held : List (Key × Held)) (channels : List (ℕ × Channel)) (statistics : StatisticsHeld) : Type 0 where
   pub board : IsBoard c waiting
   pub structures : AreStructures c.tailoring (done_instructions (session c) c.moments) held
   pub values : AreValues (session c) c.moments channels
+  pub statistics : AreStatistics (session c) c.moments statistics
+  pub settled : IsSettled (session c) c.moments
 
 -- an event whose octets, if it has any, are no more than 2^31
 abbrev pub IsSmall : Event → Type 0

@@ -36,7 +36,7 @@ impl Model for BoardCore {
 
     ghost view = { λ b. core_of b.clock b.slot_now b.requests b.structures b.log };
 
-    ghost invariant = { λ b. IsWhole (core_of b.clock b.slot_now b.requests b.structures b.log) b.requests.waiting b.structures b.channels };
+    ghost invariant = { λ b. IsWhole (core_of b.clock b.slot_now b.requests b.structures b.log) b.requests.waiting b.structures b.channels b.members };
 }
 
 impl BoardCore {

@@ -4,3 +4,4 @@ pub mod KeyLemmas
 pub mod EffectLemmas
 pub mod InstructionLemmas
 pub mod ChannelLemmas
+pub mod StatisticsLemmas

@@ -44,7 +44,7 @@ slice_get-front (x ∷ xs) ys (suc k) h = slice_get-front xs ys k (omega (arith,
 abbrev pub request_in : Session → Option (List ℕ) → Option Request
 request_in s o = option_and_then (λ packet. result_ok (s.protocol.request packet)) o
 
-done-agrees : (s : Session) (other : List (List ℕ)) (tag : ℕ) (act : Act) → Agrees s.requests other act → done_by s tag act ≡ done_by (exchanged s other) tag act
+pub done-agrees : (s : Session) (other : List (List ℕ)) (tag : ℕ) (act : Act) → Agrees s.requests other act → done_by s tag act ≡ done_by (exchanged s other) tag act
 done-agrees s other tag (Executed k number true) h =
     ap (λ o. option_map (λ x. record { tag = tag; request = k; instruction = x }) (option_and_then (λ r. instruction r number) (request_in s o))) h
 done-agrees s other tag (Executed k number false) h = refl

@@ -45,9 +45,9 @@ invariant_of-self-in-Ok c =
         c.report_if-report.result body c.add_one.new.self c.in-Ok.count c.in-Ok.ensures in
     let held : c.accept.new.self ≡ record { packets = with_request b.requests.packets c.args.number c.args.octets; waiting = b.requests.waiting ++ w ∷ [] } =
         c.in_ok-accept.ensures.ok ∙ ap (λ n. record { packets = with_request b.requests.packets n c.args.octets; waiting = b.requests.waiting ++ w ∷ [] }) c.new-running.ensures.number in
-    subst (λ (x : RequestsHeld). IsWhole (core_of b.clock b.slot_now x b.structures c.add_one.new.self) x.waiting b.structures b.channels) (sym held)
+    subst (λ (x : RequestsHeld). IsWhole (core_of b.clock b.slot_now x b.structures c.add_one.new.self) x.waiting b.structures b.channels b.members) (sym held)
     (uplink-holds (core_of b.clock b.slot_now b.requests b.structures b.log) (core_of b.clock b.slot_now (record { packets = with_request b.requests.packets c.args.number c.args.octets; waiting = b.requests.waiting ++ w ∷ [] }) b.structures c.add_one.new.self)
-        c.args.octets c.args.number b.requests.waiting (b.requests.waiting ++ w ∷ []) b.structures b.channels e r.0.3 r.1 c.self.invariant)
+        c.args.octets c.args.number b.requests.waiting (b.requests.waiting ++ w ∷ []) b.structures b.channels b.members e r.0.3 r.1 c.self.invariant)
 
 pub invariant_of-self-in-Err : goal.invariant_of-self-in-Err
 invariant_of-self-in-Err c =
@@ -60,8 +60,8 @@ invariant_of-self-in-Err c =
         c.withdraw_accepted.ensures
         ∙ ap (λ (x : RequestsHeld). record { packets = take c.next_number-next.result x.packets; waiting = take (length x.waiting - 1) x.waiting }) c.in_ok-accept.ensures.ok
         ∙ withdrawn b.requests w.number c.args.octets w c.next_number-next.result c.next_number-next.ensures.next in
-    subst (λ (x : RequestsHeld). IsWhole (core_of b.clock b.slot_now x b.structures c.add_one.new.self) x.waiting b.structures b.channels) (sym back)
-    (subst (λ (l : LogParts). IsWhole (core_of b.clock b.slot_now b.requests b.structures l) b.requests.waiting b.structures b.channels) (sym same) c.self.invariant)
+    subst (λ (x : RequestsHeld). IsWhole (core_of b.clock b.slot_now x b.structures c.add_one.new.self) x.waiting b.structures b.channels b.members) (sym back)
+    (subst (λ (l : LogParts). IsWhole (core_of b.clock b.slot_now b.requests b.structures l) b.requests.waiting b.structures b.channels b.members) (sym same) c.self.invariant)
 
 pub returns-in-Ok : goal.returns-in-Ok
 returns-in-Ok c =

@@ -53,8 +53,8 @@ invariant_of-self c =
     let held : c.end_first.new.self ≡ record { packets = b.requests.packets; waiting = ws } = c.end_first.ensures in
     let before : Core = core_of b.clock b.slot_now b.requests b.structures b.log in
     let plans = completion-planned b.clock b.slot_now b.requests b.structures b.log w ws waits fit only c.self.invariant.board t in
-    subst (λ (x : RequestsHeld). IsWhole (core_of b.clock b.slot_now x b.structures c.add_one.new.self) x.waiting b.structures b.channels) (sym held)
-    (work-holds before (core_of b.clock b.slot_now (record { packets = b.requests.packets; waiting = ws }) b.structures c.add_one.new.self) b.requests.waiting ws b.structures b.channels (Completed w.number w.refused.items) plans (λ tag. refl) tt r.0.3 r.1 c.self.invariant)
+    subst (λ (x : RequestsHeld). IsWhole (core_of b.clock b.slot_now x b.structures c.add_one.new.self) x.waiting b.structures b.channels b.members) (sym held)
+    (work-holds before (core_of b.clock b.slot_now (record { packets = b.requests.packets; waiting = ws }) b.structures c.add_one.new.self) b.requests.waiting ws b.structures b.channels b.members (Completed w.number w.refused.items) plans (λ tag. refl) tt r.0.3 r.1 c.self.invariant)
 
 pub returns-in-Ok : goal.returns-in-Ok
 returns-in-Ok c =

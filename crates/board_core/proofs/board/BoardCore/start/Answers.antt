@@ -35,8 +35,8 @@ invariant_of-self c =
     c.start_first.ensures ∙ ap (λ (xs : List Running). record { packets = b.requests.packets; waiting = first_started xs }) waits in
     let before : Core = core_of b.clock b.slot_now b.requests b.structures b.log in
     let plans = start-planned b.clock b.slot_now b.requests b.structures b.log w ws waits (subst IsFit c.tailoring.ensures c.widths-fit.ensures.fit) (c.requests_are_spelled.ensures.only b.log.tailoring) c.self.invariant.board t in
-    subst (λ (x : RequestsHeld). IsWhole (core_of b.clock b.slot_now x b.structures c.add_one.new.self) x.waiting b.structures b.channels) (sym held)
-    (work-holds before (core_of b.clock b.slot_now (record { packets = b.requests.packets; waiting = record w { started = true } ∷ ws }) b.structures c.add_one.new.self) b.requests.waiting (record w { started = true } ∷ ws) b.structures b.channels (Started w.number) plans (λ tag. refl) tt r.0.3 r.1 c.self.invariant)
+    subst (λ (x : RequestsHeld). IsWhole (core_of b.clock b.slot_now x b.structures c.add_one.new.self) x.waiting b.structures b.channels b.members) (sym held)
+    (work-holds before (core_of b.clock b.slot_now (record { packets = b.requests.packets; waiting = record w { started = true } ∷ ws }) b.structures c.add_one.new.self) b.requests.waiting (record w { started = true } ∷ ws) b.structures b.channels b.members (Started w.number) plans (λ tag. refl) tt r.0.3 r.1 c.self.invariant)
 
 pub returns-in-Ok : goal.returns-in-Ok
 returns-in-Ok c =

@@ -4,6 +4,8 @@ ghost use Rattle.board_steps.specs.declared.event.Event.TheVariants.{CloseSlot};
 
 use crate::board::BoardCore;
 use crate::log::Draft;
+use crate::statistics_work::{closed_members, statistics_report};
+use board_state::Members;
 use board_steps::BoardFault;
 use hk_base::{Definition, Items, Key, Memory, Octets, Value, greatest_tag};
 use hk_world::Act;
@@ -36,10 +38,13 @@ impl BoardCore {
         if clock > greatest_tag(self.log.tailoring()) {
             return Err(BoardFault::TimeExhausted);
         }
+        let members =
+            closed_members(self.alloc, &self.members, self.slot_now, settings.as_slice())?;
         self.add_filings(settings.as_slice(), &mut draft)?;
-        self.add_reports(&due, &mut draft)?;
+        self.add_reports(&due, &members, &mut draft)?;
         let count = self.log.commit(draft)?;
         self.clock = clock;
+        self.members = members;
         self.end_slot(settings);
         Ok(count)
     }
@@ -91,14 +96,20 @@ impl BoardCore {
         Ok(())
     }
 
-    fn add_reports(&self, due: &Due, draft: &mut Draft) -> Result<(), Memory> {
+    fn add_reports(
+        &self,
+        due: &Due,
+        members: &Members,
+        draft: &mut Draft,
+    ) -> Result<(), Memory> {
         for key in due.keys.iter() {
             let payload = self.payload(*key)?;
             let body = ReportBody::Hk(Report03::Values(*key, payload));
             draft.add(self.alloc, self.log.tailoring(), Act::Emitted, Some(body))?;
         }
         if due.has_statistics {
-            let body = self.statistics_report(draft.next_tag(), Some(self.slot_now))?;
+            let tag = draft.next_tag();
+            let body = statistics_report(self.alloc, self.log.tailoring(), members, tag)?;
             draft.add(self.alloc, self.log.tailoring(), Act::Emitted, Some(body))?;
         }
         Ok(())
@@ -136,7 +147,6 @@ impl BoardCore {
         let slot = self.slot_now;
         for setting in settings.as_slice() {
             self.channels.file(setting.param, slot, setting.value);
-            self.members.file(setting.param, slot, setting.value);
         }
         self.structures.end_one_shots(slot);
         self.slot_now = slot + 1;

@@ -1,6 +1,6 @@
 //! What an instruction does in the present state.
 use crate::board::BoardCore;
-use board_state::{Instruction, MOST_MEMBERS, StatisticsChange};
+use board_state::{Instruction, StatisticsChange};
 use hk_base::{Items, Key, Memory, Structure};
 use report_structures::{ApplyFault, Refusal, apply};
 use st03_grammar::{Change, Each};
@@ -62,19 +62,6 @@ impl BoardCore {
             Ok(None) => Ok(Effect::Delete(key)),
             Err(ApplyFault::Refused(refusal)) => Ok(Effect::Refused(refusal)),
             Err(ApplyFault::Memory) => Err(Memory),
-        }
-    }
-
-    fn statistics_effect(&self, change: StatisticsChange) -> Effect {
-        match change {
-            StatisticsChange::Add(id)
-                if !self.members.has(id) && self.members.len() >= MOST_MEMBERS => {
-                Effect::Refused(Refusal::TooMany(256))
-            }
-            StatisticsChange::Delete(id) if !self.members.has(id) => {
-                Effect::Refused(Refusal::Absent)
-            }
-            _ => Effect::ChangeStatistics(change),
         }
     }
 

@@ -6,6 +6,7 @@ ghost use Rattle.board_steps.specs.declared.event.Event.TheVariants.{Work};
 use crate::board::BoardCore;
 use crate::effect::Effect;
 use crate::log::Draft;
+use crate::statistics_work::{definitions_report, statistics_report};
 use crate::work::progress;
 use board_state::{Running, StatisticsChange};
 use board_steps::BoardFault;
@@ -13,7 +14,6 @@ use hk_base::{Items, Key, Memory, Structure, slot_of};
 use hk_world::Act;
 use pus_messages::ReportBody;
 use st03_grammar::{PeriodicRow, Report03};
-use st04_grammar::Report04;
 use st20_grammar::{Report20, Setting};
 
 impl BoardCore {
@@ -61,10 +61,10 @@ impl BoardCore {
                 Ok(Some(self.properties_report(*key, structure)?))
             }
             Effect::ChangeStatistics(StatisticsChange::Report(_)) => {
-                Ok(Some(self.statistics_report(tag, None)?))
+                Ok(Some(statistics_report(self.alloc, self.log.tailoring(), &self.members, tag)?))
             }
             Effect::ChangeStatistics(StatisticsChange::ShowDefinitions) => {
-                Ok(Some(self.definitions_report()?))
+                Ok(Some(definitions_report(self.alloc, &self.members)?))
             }
             Effect::ReportValues(ids) => Ok(Some(self.values_report(ids.as_slice())?)),
             _ => Ok(None),
@@ -79,25 +79,6 @@ impl BoardCore {
         };
         let rows = Items::from_slice(self.alloc, &[row])?;
         Ok(ReportBody::Hk(Report03::Periodic(key.kind, rows)))
-    }
-
-    /// The statistics at this tag.
-    pub(crate) fn statistics_report(
-        &self,
-        tag: u64,
-        closing: Option<u64>,
-    ) -> Result<ReportBody, Memory> {
-        let tailoring = self.log.tailoring();
-        let report = self
-            .members
-            .report(self.alloc, tailoring, &self.channels, tag, closing)?;
-        Ok(ReportBody::Stat(Report04::Statistics(report)))
-    }
-
-    fn definitions_report(&self) -> Result<ReportBody, Memory> {
-        let (enabled, interval) = (self.members.enabled, self.members.interval);
-        let params = self.members.params(self.alloc)?;
-        Ok(ReportBody::Stat(Report04::Definitions(enabled, interval, params)))
     }
 
     fn values_report(&self, ids: &[u32]) -> Result<ReportBody, Memory> {
@@ -123,7 +104,7 @@ impl BoardCore {
     }
 
     /// The slot after that of the first moment of a draft.
-    fn next_slot(&self) -> u64 {
+    pub(crate) fn next_slot(&self) -> u64 {
         let tag = self.clock.max(self.log.last_tag() + 1);
         slot_of(self.log.tailoring(), tag) + 1
     }
@@ -154,31 +135,6 @@ impl BoardCore {
                 Err(BoardFault::Memory)
             }
         }
-    }
-
-    /// Changes the statistics. The last moment has the last tag.
-    fn change_statistics(
-        &mut self,
-        change: StatisticsChange,
-        draft: Draft,
-    ) -> Result<u32, BoardFault> {
-        let next_slot = self.next_slot();
-        let last_tag = draft.last_tag;
-        self.members.reserve()?;
-        let count = self.log.commit(draft)?;
-        match change {
-            StatisticsChange::Report(true) | StatisticsChange::Reset => {
-                self.members.reset(last_tag)
-            }
-            StatisticsChange::Report(false) | StatisticsChange::ShowDefinitions => {}
-            StatisticsChange::Enable(interval) => self.members.enable(interval, next_slot),
-            StatisticsChange::Disable => self.members.disable(),
-            StatisticsChange::Add(id) => self.members.add(id),
-            StatisticsChange::Delete(id) => self.members.delete(id),
-            StatisticsChange::DeleteAll => self.members.delete_all(),
-        }
-        self.requests.count_done();
-        Ok(count)
     }
 
     /// What takes no memory of its own.

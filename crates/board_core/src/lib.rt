@@ -10,6 +10,7 @@ mod effect;
 mod execution;
 mod log;
 mod packets;
+mod statistics_work;
 mod uplink;
 mod work;
 

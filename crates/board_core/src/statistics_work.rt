@@ -1,0 +1,116 @@
+//! The statistics: why a change is refused, what it leaves, and the reports on them.
+use crate::board::BoardCore;
+use crate::effect::Effect;
+use crate::log::Draft;
+use board_state::{MOST_MEMBERS, Members, StatisticsChange};
+use board_steps::BoardFault;
+use hk_base::{Memory, Tailoring};
+use pus_messages::ReportBody;
+use report_structures::Refusal;
+use st04_grammar::Report04;
+use st20_grammar::Setting;
+use std::alloc::Global;
+
+impl BoardCore {
+    /// What a change of the statistics does.
+    pub(crate) fn statistics_effect(&self, change: StatisticsChange) -> Effect {
+        match statistics_refusal(&self.members, change) {
+            Some(refusal) => Effect::Refused(refusal),
+            None => Effect::ChangeStatistics(change),
+        }
+    }
+
+    /// Changes the statistics. The last moment has the last tag.
+    pub(crate) fn change_statistics(
+        &mut self,
+        change: StatisticsChange,
+        draft: Draft,
+    ) -> Result<u32, BoardFault> {
+        let next_slot = self.next_slot();
+        let last_tag = draft.last_tag;
+        let members = changed_members(self.alloc, &self.members, change, last_tag, next_slot)?;
+        let count = self.log.commit(draft)?;
+        self.members = members;
+        self.requests.count_done();
+        Ok(count)
+    }
+}
+
+/// Why a change of the statistics is refused, if it is.
+fn statistics_refusal(members: &Members, change: StatisticsChange) -> Option<Refusal> {
+    match change {
+        StatisticsChange::Add(id) => {
+            if members.has(id) || members.len() < MOST_MEMBERS {
+                None
+            } else {
+                Some(Refusal::TooMany(256))
+            }
+        }
+        StatisticsChange::Delete(id) => {
+            if members.has(id) {
+                None
+            } else {
+                Some(Refusal::Absent)
+            }
+        }
+        _ => None,
+    }
+}
+
+/// What a change leaves that is done before the slot with this number, the last of its moments at this tag.
+fn changed_members(
+    alloc: Global,
+    members: &Members,
+    change: StatisticsChange,
+    last_tag: u64,
+    next_slot: u64,
+) -> Result<Members, Memory> {
+    let mut members = members.copy(alloc)?;
+    match change {
+        StatisticsChange::Report(true) | StatisticsChange::Reset => members.reset(last_tag),
+        StatisticsChange::Report(false) | StatisticsChange::ShowDefinitions => {}
+        StatisticsChange::Enable(interval) => members.enable(interval, next_slot),
+        StatisticsChange::Disable => members.disable(),
+        StatisticsChange::Add(id) => members.add(id)?,
+        StatisticsChange::Delete(id) => members.delete(id),
+        StatisticsChange::DeleteAll => members.delete_all(),
+    }
+    Ok(members)
+}
+
+/// The statistics with the samples of settable parameters in a slot that closes.
+pub(crate) fn closed_members(
+    alloc: Global,
+    members: &Members,
+    slot: u64,
+    settings: &[Setting],
+) -> Result<Members, Memory> {
+    let mut members = members.copy(alloc)?;
+    for setting in settings {
+        members.file(setting.param, slot, setting.value);
+    }
+    Ok(members)
+}
+
+/// The report of the statistics at this tag.
+pub(crate) fn statistics_report(
+    alloc: Global,
+    tailoring: &Tailoring,
+    members: &Members,
+    tag: u64,
+) -> Result<ReportBody, Memory> {
+    let report = members.report(alloc, tailoring, tag)?;
+    Ok(ReportBody::Stat(Report04::Statistics(report)))
+}
+
+/// The report of what the statistics are taken of.
+pub(crate) fn definitions_report(
+    alloc: Global,
+    members: &Members,
+) -> Result<ReportBody, Memory> {
+    let params = members.params(alloc)?;
+    let (enabled, interval) = (members.is_enabled(), members.interval());
+    Ok(ReportBody::Stat(Report04::Definitions(
+        enabled, interval, params,
+    )))
+}

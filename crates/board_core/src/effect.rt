@@ -1,4 +1,12 @@
 //! What an instruction does in the present state.
+ghost use Rattle.std.specs.Prelude.{◌≡◌, ◌<◌, ◌^◌, length, not, IfOk, if◌then◌else◌};
+ghost use Rattle.st03_grammar.specs.Instructions.{change_of};
+ghost use Rattle.st20_grammar.specs.Spelling.{AreIds};
+ghost use Rattle.report_structures.specs.Changes.{IsGrammarChange};
+ghost use Rattle.pus_messages.specs.Instructions.{on_structure, on_statistics, report_values};
+ghost use Rattle.board_state.specs.OneByOne.{instruction_of, statistics_change_of};
+ghost use Rattle.board_core.specs.Effects.{IsEffectOf, IsOfGrammar, IsStatisticsOfGrammar, is_done, effect_topics, kind_of, effect_by};
+
 use crate::board::BoardCore;
 use board_state::{Instruction, StatisticsChange};
 use hk_base::{Items, Key, Memory, Structure};
@@ -23,12 +31,16 @@ pub(crate) enum Effect {
 }
 
 impl Effect {
-    pub(crate) fn is_refused(&self) -> bool {
+    pub(crate) fn is_refused(&self) -> bool
+        ensures { result ≡ not (is_done self.now) }
+    {
         matches!(self, Effect::Refused(_))
     }
 
     /// Whether a report is ordered.
-    pub(crate) fn has_report(&self) -> bool {
+    pub(crate) fn has_report(&self) -> bool
+        ensures { length (effect_topics self.now) ≡ (if result then 1 else 0) }
+    {
         match self {
             Effect::ShowStructure(_, _)
             | Effect::ShowProperties(_, _)
@@ -43,7 +55,10 @@ impl Effect {
 
 impl BoardCore {
     /// What an instruction does in the present state.
-    pub(crate) fn effect(&self, instruction: Instruction<'_>) -> Result<Effect, Memory> {
+    pub(crate) fn effect(&self, instruction: Instruction<'_>) -> Result<Effect, Memory>
+        requires { IsOfGrammar self.now.tailoring (instruction_of instruction) }
+        ensures { IfOk result (IsEffectOf self.now (instruction_of instruction.entry)) }
+    {
         match instruction {
             Instruction::Structure(key, change) => self.structure_effect(key, change),
             Instruction::Statistics(change) => Ok(self.statistics_effect(change)),
@@ -54,7 +69,11 @@ impl BoardCore {
         }
     }
 
-    fn structure_effect(&self, key: Key, change: Change<'_>) -> Result<Effect, Memory> {
+    fn structure_effect(&self, key: Key, change: Change<'_>) -> Result<Effect, Memory>
+        requires grammar { IsGrammarChange self.now.tailoring (change_of change) }
+        requires id { key.id < 256 ^ self.now.tailoring.widths.structure_octets }
+        ensures { IfOk result (IsEffectOf self.now (on_structure key (change_of change.entry))) }
+    {
         let kind = ChangeKind::of(&change);
         let before = self.structures.structure(key);
         match apply(self.alloc, self.log.tailoring(), change, before) {
@@ -65,7 +84,10 @@ impl BoardCore {
         }
     }
 
-    fn report_effect(&self, ids: &[u32]) -> Result<Effect, Memory> {
+    fn report_effect(&self, ids: &[u32]) -> Result<Effect, Memory>
+        requires { AreIds self.now.tailoring ids.now }
+        ensures { IfOk result (IsEffectOf self.now (report_values ids.now)) }
+    {
         match self.channels.without_value(ids) {
             Some(id) => Ok(Effect::Refused(Refusal::NoValue(id))),
             None => Ok(Effect::ReportValues(Items::from_slice(self.alloc, ids)?)),
@@ -86,7 +108,9 @@ enum ChangeKind {
 }
 
 impl ChangeKind {
-    fn of(change: &Change<'_>) -> ChangeKind {
+    fn of(change: &Change<'_>) -> ChangeKind
+        ensures { result ≡ kind_of (change_of change.now) }
+    {
         match change {
             Change::Create(_) => ChangeKind::Creation,
             Change::Append(_) | Change::Interval(_) | Change::Plain(Each::Enable) => {
@@ -100,7 +124,9 @@ impl ChangeKind {
     }
 
     /// The effect that leaves this structure.
-    fn effect(self, key: Key, after: Structure) -> Effect {
+    fn effect(self, key: Key, after: Structure) -> Effect
+        ensures { result ≡ effect_by self key after }
+    {
         match self {
             ChangeKind::Creation => Effect::Create(key, after),
             ChangeKind::Redefinition => Effect::Replace(key, after, true),

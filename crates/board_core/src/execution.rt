@@ -1,7 +1,18 @@
 //! The execution of an instruction.
+ghost use Rattle.std.specs.Prelude.{◌≡◌, ◌+◌, ◌/◌, ◌<◌, ◌≤◌, ◌^◌, ◌∷◌, [], max, Some, None, IfOk, IfSome, OnOk};
+ghost use Rattle.hk_base.specs.Fit as fit;
+ghost use Rattle.pus_messages.specs.Instructions.{Instruction, report_values};
+ghost use Rattle.st20_grammar.specs.Spelling.{AreIds};
+ghost use Rattle.hk_world.specs.States.{refusal};
+ghost use Rattle.board_steps.specs.Cores.{state_of, next_tag};
+ghost use Rattle.board_steps.specs.Plans.{statistics, definitions, values_of, properties_of};
 ghost use Rattle.board_steps.specs.Steps.{Answers};
-ghost use Rattle.board_core.specs.Worked.{IsToExecute};
 ghost use Rattle.board_steps.specs.declared.event.Event.TheVariants.{Work};
+ghost use Rattle.board_core.specs.Effects.{IsExecuting, IsEffectOf, IsOrderedBody, IsToCarry, OnlyShows, effect_topics};
+ghost use Rattle.board_core.specs.declared.effect.Effect.{Effect};
+ghost use Rattle.board_core.specs.Planned.{AnswersPlan};
+ghost use Rattle.board_core.specs.Worked.{IsToExecute};
+ghost use Rattle.board_core.specs.declared.effect.Effect.TheVariants as effect;
 
 use crate::board::BoardCore;
 use crate::effect::Effect;
@@ -13,6 +24,7 @@ use board_steps::BoardFault;
 use hk_base::{Items, Key, Memory, Structure, slot_of};
 use hk_world::Act;
 use pus_messages::ReportBody;
+use report_structures::Refusal;
 use st03_grammar::{PeriodicRow, Report03};
 use st20_grammar::{Report20, Setting};
 
@@ -31,7 +43,10 @@ impl BoardCore {
     }
 
     /// The moments of an instruction that is executed.
-    fn execution(&self, running: &Running, effect: &Effect) -> Result<Draft, BoardFault> {
+    fn execution(&self, running: &Running, effect: &Effect) -> Result<Draft, BoardFault>
+        requires { IsExecuting self.now running.now effect.now }
+        ensures { AnswersPlan self.now Work result }
+    {
         let number = running.executed + 1;
         let count = 1 + u64::from(effect.has_report());
         let mut draft = self.log.draft(self.clock, count)?;
@@ -51,7 +66,10 @@ impl BoardCore {
     }
 
     /// The report that an effect orders, at this tag.
-    fn ordered_report(&self, effect: &Effect, tag: u64) -> Result<Option<ReportBody>, Memory> {
+    fn ordered_report(&self, effect: &Effect, tag: u64) -> Result<Option<ReportBody>, Memory>
+        requires { (x : Instruction) × IsEffectOf self.now x effect.now }
+        ensures { IfOk result (IsOrderedBody self.now tag (effect_topics effect.now)) }
+    {
         match effect {
             Effect::ShowStructure(key, structure) => {
                 let copy = structure.copy(self.alloc)?;
@@ -71,7 +89,10 @@ impl BoardCore {
         }
     }
 
-    fn properties_report(&self, key: Key, structure: &Structure) -> Result<ReportBody, Memory> {
+    fn properties_report(&self, key: Key, structure: &Structure) -> Result<ReportBody, Memory>
+        requires { (x : Instruction) × IsEffectOf self.now x (effect.ShowProperties key structure.now) }
+        ensures { IfOk result (λ body. IsOrderedBody self.now 0 (properties_of key ∷ []) (Some body)) }
+    {
         let row = PeriodicRow {
             id: key.id,
             enabled: structure.enabled,
@@ -81,7 +102,11 @@ impl BoardCore {
         Ok(ReportBody::Hk(Report03::Periodic(key.kind, rows)))
     }
 
-    fn values_report(&self, ids: &[u32]) -> Result<ReportBody, Memory> {
+    fn values_report(&self, ids: &[u32]) -> Result<ReportBody, Memory>
+        requires ids { AreIds self.now.tailoring ids.now }
+        requires values { refusal self.now.tailoring (state_of self.now) (report_values ids.now) ≡ None }
+        ensures { IfOk result (λ body. IsOrderedBody self.now 0 (values_of ids.now ∷ []) (Some body)) }
+    {
         let mut pairs = Vec::new(self.alloc);
         for id in ids {
             let Some(value) = self.channels.value(*id) else {
@@ -94,23 +119,35 @@ impl BoardCore {
     }
 
     /// Adds the moments of an instruction to the journal, and does what it does.
-    fn carry_out(&mut self, effect: Effect, draft: Draft) -> Result<u32, BoardFault> {
+    fn carry_out(&mut self, effect: Effect, draft: Draft) -> Result<u32, BoardFault>
+        requires { IsToCarry self.old effect draft }
+        ensures { Answers self.old Work self.new result }
+    {
         match effect {
-            Effect::Refused(_) => self.pass_over(draft),
+            Effect::Refused(refusal) => self.pass_over(refusal, draft),
             Effect::Create(key, structure) => self.create(key, structure, draft),
+            Effect::Delete(key) => self.delete(key, draft),
+            Effect::Replace(key, structure, begins) => self.replace(key, structure, begins, draft),
+            Effect::OrderOneShot(key) => self.order_one_shot(key, draft),
             Effect::ChangeStatistics(change) => self.change_statistics(change, draft),
-            effect => self.change_rest(effect, draft),
+            Effect::SetValues(settings) => self.set_values(settings, draft),
+            _shown => self.show(draft),
         }
     }
 
     /// The slot after that of the first moment of a draft.
-    pub(crate) fn next_slot(&self) -> u64 {
+    pub(crate) fn next_slot(&self) -> u64
+        ensures slot { result ≡ fit.slot_of self.now.tailoring (next_tag self.now.clock self.now.moments) + 1 }
+    {
         let tag = self.clock.max(self.log.last_tag() + 1);
         slot_of(self.log.tailoring(), tag) + 1
     }
 
     /// An instruction was refused.
-    fn pass_over(&mut self, draft: Draft) -> Result<u32, BoardFault> {
+    fn pass_over(&mut self, refusal: Refusal, draft: Draft) -> Result<u32, BoardFault>
+        requires { IsToCarry self.old (effect.Refused refusal) draft }
+        ensures { Answers self.old Work self.new result }
+    {
         self.requests.count_refused()?;
         match self.log.commit(draft) {
             Ok(count) => Ok(count),
@@ -122,7 +159,10 @@ impl BoardCore {
     }
 
     /// A new structure, for which the memory is taken first.
-    fn create(&mut self, key: Key, structure: Structure, draft: Draft) -> Result<u32, BoardFault> {
+    fn create(&mut self, key: Key, structure: Structure, draft: Draft) -> Result<u32, BoardFault>
+        requires { IsToCarry self.old (effect.Create key structure) draft }
+        ensures { Answers self.old Work self.new result }
+    {
         let first_slot = self.next_slot();
         self.structures.create(key, structure, first_slot)?;
         match self.log.commit(draft) {
@@ -137,20 +177,64 @@ impl BoardCore {
         }
     }
 
-    /// What takes no memory of its own.
-    fn change_rest(&mut self, effect: Effect, draft: Draft) -> Result<u32, BoardFault> {
+    /// Takes a structure away.
+    fn delete(&mut self, key: Key, draft: Draft) -> Result<u32, BoardFault>
+        requires { IsToCarry self.old (effect.Delete key) draft }
+        ensures { Answers self.old Work self.new result }
+    {
+        let count = self.log.commit(draft)?;
+        self.structures.delete(key);
+        self.requests.count_done();
+        Ok(count)
+    }
+
+    /// Puts a structure in the place of the one that is there.
+    fn replace(
+        &mut self,
+        key: Key,
+        structure: Structure,
+        begins: bool,
+        draft: Draft,
+    ) -> Result<u32, BoardFault>
+        requires { IsToCarry self.old (effect.Replace key structure begins) draft }
+        ensures { Answers self.old Work self.new result }
+    {
+        let begins = if begins { Some(self.next_slot()) } else { None };
+        let count = self.log.commit(draft)?;
+        self.structures.replace(key, structure, begins);
+        self.requests.count_done();
+        Ok(count)
+    }
+
+    /// A report that comes once.
+    fn order_one_shot(&mut self, key: Key, draft: Draft) -> Result<u32, BoardFault>
+        requires { IsToCarry self.old (effect.OrderOneShot key) draft }
+        ensures { Answers self.old Work self.new result }
+    {
         let next_slot = self.next_slot();
         let count = self.log.commit(draft)?;
-        match effect {
-            Effect::Delete(key) => self.structures.delete(key),
-            Effect::Replace(key, structure, begins) => {
-                let begins = if begins { Some(next_slot) } else { None };
-                self.structures.replace(key, structure, begins)
-            }
-            Effect::OrderOneShot(key) => self.structures.order_one_shot(key, next_slot),
-            Effect::SetValues(settings) => self.channels.set(settings.as_slice()),
-            _rest => {}
-        }
+        self.structures.order_one_shot(key, next_slot);
+        self.requests.count_done();
+        Ok(count)
+    }
+
+    /// Sets values.
+    fn set_values(&mut self, settings: Items<Setting>, draft: Draft) -> Result<u32, BoardFault>
+        requires { IsToCarry self.old (effect.SetValues settings) draft }
+        ensures { Answers self.old Work self.new result }
+    {
+        let count = self.log.commit(draft)?;
+        self.channels.set(settings.as_slice());
+        self.requests.count_done();
+        Ok(count)
+    }
+
+    /// An instruction that only orders a report.
+    fn show(&mut self, draft: Draft) -> Result<u32, BoardFault>
+        requires { (e : Effect) × IsToCarry self.old e draft × OnlyShows e }
+        ensures { Answers self.old Work self.new result }
+    {
+        let count = self.log.commit(draft)?;
         self.requests.count_done();
         Ok(count)
     }

@@ -1,4 +1,11 @@
 //! The statistics: why a change is refused, what it leaves, and the reports on them.
+ghost use Rattle.pus_messages.specs.Instructions.{on_statistics};
+ghost use Rattle.board_steps.specs.Steps.{Answers};
+ghost use Rattle.board_steps.specs.declared.event.Event.TheVariants.{Work};
+ghost use Rattle.board_state.specs.OneByOne.{statistics_change_of};
+ghost use Rattle.board_core.specs.Effects.{IsEffectOf, IsStatisticsOfGrammar, IsToCarry};
+ghost use Rattle.board_core.specs.declared.effect.Effect.TheVariants as effect;
+
 use crate::board::BoardCore;
 use crate::effect::Effect;
 use crate::log::Draft;
@@ -13,7 +20,10 @@ use std::alloc::Global;
 
 impl BoardCore {
     /// What a change of the statistics does.
-    pub(crate) fn statistics_effect(&self, change: StatisticsChange) -> Effect {
+    pub(crate) fn statistics_effect(&self, change: StatisticsChange) -> Effect
+        requires { IsStatisticsOfGrammar self.now.tailoring (statistics_change_of change) }
+        ensures { IsEffectOf self.now (on_statistics (statistics_change_of change)) result }
+    {
         match statistics_refusal(&self.members, change) {
             Some(refusal) => Effect::Refused(refusal),
             None => Effect::ChangeStatistics(change),
@@ -25,7 +35,10 @@ impl BoardCore {
         &mut self,
         change: StatisticsChange,
         draft: Draft,
-    ) -> Result<u32, BoardFault> {
+    ) -> Result<u32, BoardFault>
+        requires { IsToCarry self.old (effect.ChangeStatistics change) draft }
+        ensures { Answers self.old Work self.new result }
+    {
         let next_slot = self.next_slot();
         let last_tag = draft.last_tag;
         let members = changed_members(self.alloc, &self.members, change, last_tag, next_slot)?;

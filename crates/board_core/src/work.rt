@@ -1,11 +1,14 @@
 //! The work on the request that comes first: it begins, its instructions are executed one by one, and it ends.
-ghost use Rattle.std.specs.Prelude.{◌≡◌, ◌≤◌, ◌∷◌, [], List, length, slice_get, false, true, IfOk, IfSome};
+ghost use Rattle.std.specs.Prelude.{◌≡◌, ◌≤◌, ◌-◌, ◌∷◌, [], List, length, slice_get, false, true, Some, IfOk, IfSome};
 ghost use Rattle.hk_world.specs.Timelines.{instructions_at};
 ghost use Rattle.board_steps.specs.Cores as cores;
 ghost use Rattle.board_steps.specs.Plans as plans;
 ghost use Rattle.board_core.specs.Causes.{IsSmallRefusal};
 ghost use Rattle.board_steps.specs.Steps.{Answers};
 ghost use Rattle.board_core.specs.Worked.{IsToStart, IsToRefuse, IsToComplete, IsToBegin, IsUnbegun, StartsWith, IsRefusedWith, CompletesWith, completion};
+ghost use Rattle.pus_messages.specs.Instructions.{Instruction, instructions};
+ghost use Rattle.board_state.specs.Waiting.{IsRunning};
+ghost use Rattle.board_core.specs.Effects.{IsEffectOf, IsSmallEffect, progress_of};
 ghost use Rattle.board_steps.specs.declared.event.Event.TheVariants.{Work};
 
 use crate::board::BoardCore;
@@ -131,7 +134,15 @@ impl BoardCore {
     }
 
     /// What the instruction of a request with this number does.
-    pub(crate) fn effect_of(&self, running: &Running, number: u32) -> Result<Effect, Memory> {
+    pub(crate) fn effect_of(&self, running: &Running, number: u32) -> Result<Effect, Memory>
+        requires running { IsRunning (cores.session self.now) self.now.moments running.now }
+        requires from { 1 ≤ number }
+        requires until { number ≤ length (instructions running.now.request) }
+        ensures { (x : Instruction) → slice_get (instructions running.now.request) (number - 1) ≡ Some x → IfOk result (IsEffectOf self.now x) }
+    {
+        // A law, and the fitness of the tailoring: they do nothing.
+        requests_are_spelled();
+        let _fit = self.log.tailoring().widths();
         let Some(instruction) = instruction_at(&running.request, number) else {
             unreachable!();
         };
@@ -181,7 +192,11 @@ fn completion_report(alloc: Global, running: &Running) -> Result<Option<ReportBo
 }
 
 /// The report of an instruction that was executed, where it is due.
-pub(crate) fn progress(running: &Running, number: u32, effect: &Effect) -> Option<ReportBody> {
+pub(crate) fn progress(running: &Running, number: u32, effect: &Effect) -> Option<ReportBody>
+    requires few { length (instructions running.now.request) ≤ 255 }
+    requires small { IsSmallEffect effect.now }
+    ensures { result ≡ progress_of running.now number effect.now }
+{
     if !running.has_several() {
         return None;
     }

@@ -5,3 +5,4 @@ pub mod EffectLemmas
 pub mod InstructionLemmas
 pub mod ChannelLemmas
 pub mod StatisticsLemmas
+pub mod ChangeLemmas

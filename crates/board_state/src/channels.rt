@@ -1,8 +1,9 @@
 //! The parameters: their values, and their latest samples.
-ghost use Rattle.std.specs.Prelude.{◌≡◌, ◌<◌, ◌==◌, ℕ, true, is_some, is_none, find, IfOk, IfSome, OnOk};
+ghost use Rattle.std.specs.Prelude.{◌≡◌, ◌<◌, ◌==◌, ℕ, [], false, is_some, is_none, find, IfOk, IfSome, OnOk};
 ghost use Rattle.std.specs.Option.{option_copied, option_map_or};
+ghost use Rattle.circular_buffer.specs.Buffer.{buffer};
 ghost use Rattle.sample_slots.specs.Windows.{sample_at};
-ghost use Rattle.board_state.specs.Values.{channel_at, value_at, settings_held, change_channel, filed_channel, with_settings, IsLater, closing_sample, new_channels};
+ghost use Rattle.board_state.specs.Values.{channel_at, value_at, setting_held, settings_held, change_channel, filed_channel, set_channel, with_settings, IsLater, closing_sample, new_channels};
 
 use hk_base::{Items, Memory, Param, Tailoring, Value};
 use indexmap::IndexMap;
@@ -39,6 +40,16 @@ impl Channel {
             self.value
         } else {
             self.window.at(slot)
+        }
+    }
+
+    /// The value of a settable parameter, which has this ID.
+    fn setting(&self, param: u32) -> Option<Setting>
+        ensures { result ≡ setting_held (param, self.now) }
+    {
+        match self.value {
+            Some(value) if self.is_settable => Some(Setting { param, value }),
+            _ => None,
         }
     }
 
@@ -112,18 +123,20 @@ impl Channels {
         requires { IfSome (channel_at self.old param) (IsLater slot) }
         ensures { self.new ≡ change_channel param (filed_channel slot value) self.old }
     {
-        if let Some(channel) = self.by_id.get_mut(&param) {
-            channel.file(slot, value);
-        }
+        let Some(channel) = self.by_id.get_mut(&param) else {
+            return;
+        };
+        channel.file(slot, value);
     }
 
     /// Sets the value of a parameter.
-    fn set_one(&mut self, setting: Setting)
-        ensures { self.new ≡ change_channel setting.param (set_channel setting.value) self.old }
+    fn set_one(&mut self, param: u32, value: Value)
+        ensures { self.new ≡ change_channel param (set_channel value) self.old }
     {
-        if let Some(channel) = self.by_id.get_mut(&setting.param) {
-            channel.value = Some(setting.value);
-        }
+        let Some(channel) = self.by_id.get_mut(&param) else {
+            return;
+        };
+        channel.value = Some(value);
     }
 
     /// Sets values, one after the other.
@@ -131,7 +144,7 @@ impl Channels {
         ensures { self.new ≡ with_settings settings.now self.old }
     {
         for setting in settings {
-            self.set_one(*setting);
+            self.set_one(setting.param, setting.value);
         }
     }
 
@@ -141,11 +154,8 @@ impl Channels {
     {
         let mut settings = Vec::new(alloc);
         for (param, channel) in self.by_id.iter() {
-            if let (true, Some(value)) = (channel.is_settable, channel.value) {
-                settings.push(Setting {
-                    param: *param,
-                    value,
-                })?;
+            if let Some(setting) = channel.setting(*param) {
+                settings.push(setting)?;
             }
         }
         Ok(Items::from_vec(settings))

@@ -230,7 +230,7 @@ all-unmapped : (P : ℕ → Type 0) (ps : List Param) → AllByRecursion P (map 
 all-unmapped P [] h = tt
 all-unmapped P (p ∷ ps) h = (h.0, all-unmapped P ps h.1)
 
-distinct-apart : (ps : List Param) → IsDistinct nat_eq (map (λ p. p.id) ps) → AreIdsApart ps
+pub distinct-apart : (ps : List Param) → IsDistinct nat_eq (map (λ p. p.id) ps) → AreIdsApart ps
 unfolding IsDistinct
 distinct-apart [] h = tt
 distinct-apart (p ∷ ps) h = (all-unmapped (λ y. nat_eq p.id y ≡ false) ps h.0, distinct-apart ps h.1)
@@ -289,18 +289,21 @@ all-to-file c filed (p ∷ ps) h =
     },
     all-to-file c filed ps h.1)
 
+-- each settable parameter is the one with its ID
+pub settables-own : (t : TailoringParts) → IsFit t → AllByRecursion (λ p. (find (λ q. q.id == p.id) t.params ≡ Some p) × (is_settable p ≡ true)) (settables t)
+settables-own t fit =
+    let own = found-own [] t.params t.params (λ id h. refl) (all-tt t.params) (distinct-apart t.params fit.ids) in
+    both-all (λ p. find (λ q. q.id == p.id) t.params ≡ Some p) (λ p. is_settable p ≡ true) (settables t)
+    (all-filter (λ p. find (λ q. q.id == p.id) t.params ≡ Some p) is_settable t.params own) (filter-passes is_settable t.params)
+
 -- the filings at the end of a slot, before the first
 pub closing-begins : (c : Core) → IsFit c.tailoring → IsGood (session c) c.slot_now c.moments → IsClosing c (settables c.tailoring) c.moments
 closing-begins c fit g =
     let apart : AreIdsApart c.tailoring.params = distinct-apart c.tailoring.params fit.ids in
-    let own = found-own [] c.tailoring.params c.tailoring.params (λ id h. refl) (all-tt c.tailoring.params) apart in
     record {
       good = record { timeline = g.timeline; below = g.below; filed = are-filed-later c.tailoring c.slot_now c.moments g.filed };
       structures = λ key. refl;
-      params = all-to-file c g.filed (settables c.tailoring)
-          (both-all (λ p. find (λ q. q.id == p.id) c.tailoring.params ≡ Some p) (λ p. is_settable p ≡ true) (settables c.tailoring)
-          (all-filter (λ p. find (λ q. q.id == p.id) c.tailoring.params ≡ Some p) is_settable c.tailoring.params own)
-          (filter-passes is_settable c.tailoring.params));
+      params = all-to-file c g.filed (settables c.tailoring) (settables-own c.tailoring fit);
       apart = apart-filter is_settable c.tailoring.params apart;
     }
 

@@ -6,3 +6,6 @@ pub mod NextLemmas
 pub mod WorkLemmas
 pub mod ClosingLemmas
 pub mod RunLemmas
+pub mod AddedLemmas
+pub mod ReportLemmas
+pub mod JournalLemmas

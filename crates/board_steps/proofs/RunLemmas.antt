@@ -1,5 +1,5 @@
 -- Whatever events come, what a board has done is a legal and honest timeline.
-use Rattle.std.proofs.Common.{arith, ◌≡◌, ℕ, zero, suc, ◌+◌, ◌-◌, ◌*◌, ◌<◌, ◌≤◌, max, refl, sym, ◌∙◌, ap, subst, List, [], ◌∷◌, ◌++◌, length, length-append, replicate, map, Bool, true, false, ◌==◌, ◌&&◌, ◌||◌, Option, Some, None, Ok, Err, ◌⊎◌, inl, inr}
+use Rattle.std.proofs.Common.{arith, ◌≡◌, ℕ, zero, suc, ◌+◌, ◌-◌, ◌*◌, ◌^◌, ◌<◌, ◌≤◌, max, refl, sym, ◌∙◌, ap, subst, List, [], ◌∷◌, ◌++◌, length, length-append, replicate, map, Bool, true, false, ◌==◌, ◌&&◌, ◌||◌, Option, Some, None, Ok, Err, ◌⊎◌, inl, inr}
 use Rattle.std.specs.Prelude.{⊤, ℤ, IfSome, IsSome, IsFalse, is_some, nat_le, nat_lt, find, slice_get, option_and_then, if◌then◌else◌}
 use Rattle.std.specs.List.{AllByRecursion, list_any, range_with_len}
 use Rattle.std.specs.Option.{option_map_or}
@@ -280,7 +280,7 @@ packet-clock : (c : Core) (packet : List ℕ) (o : Option ℕ) → (with_packet 
 packet-clock c packet None = refl
 packet-clock c packet (Some k) = refl
 
-packet-tailoring : (c : Core) (packet : List ℕ) (o : Option ℕ) → (with_packet c packet o).tailoring ≡ c.tailoring
+pub packet-tailoring : (c : Core) (packet : List ℕ) (o : Option ℕ) → (with_packet c packet o).tailoring ≡ c.tailoring
 packet-tailoring c packet None = refl
 packet-tailoring c packet (Some k) = refl
 

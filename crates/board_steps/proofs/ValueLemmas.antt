@@ -19,6 +19,7 @@ use Rattle.pus_messages.specs.Instructions.{Instruction, on_structure, on_statis
 use Rattle.pus_messages.specs.Messages.{protocol, request_of}
 use Rattle.pus_messages.specs.declared.message.Request.{Request}
 use Rattle.pus_messages.specs.declared.message.MessageFault.{MessageFault}
+use Rattle.pus_messages.proofs.FoundLemmas.{request-few}
 use Rattle.hk_world.specs.States.{boot_state}
 use Rattle.hk_world.specs.Timelines.{Session, tailoring, Done, request_at, instructions_at, instruction_at, done_by, done_at, done_instructions, set_value, filed_value, first_some, structure_after, state_after}
 use Rattle.hk_world.specs.declared.moment.Moment.{Moment}
@@ -39,6 +40,7 @@ all-at P (y ∷ xs) (suc k) x h e = all-at P xs k x h.1 e
 -- a request of a core is one of the grammar
 pub record IsGrammatical (t : TailoringParts) (r : Request) : Type 0 where
   pub some : 1 ≤ length (instructions r)
+  pub few : length (instructions r) ≤ 255
   pub fit : AllByRecursion (SettingsFit t) (instructions r)
 
 -- the request in a packet
@@ -61,7 +63,11 @@ request-grammatical c only octets k r e = go (slice_get c.requests k) refl
     go (Some packet) f =
         let read : request_of c.tailoring packet ≡ Ok r = request-ok c.tailoring packet r (sym (ap (in_packet c.tailoring) f) ∙ e) in
         let is = only r packet (all-at AreOctets c.requests k packet octets f) read in
-        record { some = body-some c.tailoring r.body is.message.body; fit = body-fit c.tailoring r.body is.message.body }
+        record {
+          some = body-some c.tailoring r.body is.message.body;
+          few = request-few c.tailoring packet (Ok r) (all-at AreOctets c.requests k packet octets f) only read;
+          fit = body-fit c.tailoring r.body is.message.body;
+        }
 
 -- what an instruction sets a parameter to fits it
 set-fits : (t : TailoringParts) (q : Param) (id : ℕ) (v : ℤ) → parameter t id ≡ Some q → (settings : List Setting) → AllByRecursion (λ x. IsValueOf t x.param x.value) settings

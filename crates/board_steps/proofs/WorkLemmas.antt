@@ -203,7 +203,7 @@ instruction-ordered (on_statistics change) = statistics-ordered change
 instruction-ordered (report_values ids) = (tt, tt)
 instruction-ordered (set_values settings) = tt
 
-all-ordered : (done : List Done) → AllByRecursion IsOrdered (topics_of done)
+pub all-ordered : (done : List Done) → AllByRecursion IsOrdered (topics_of done)
 all-ordered [] = tt
 all-ordered (d ∷ done) = AllByRecursion-append IsOrdered (ordered_topics d.instruction) (topics_of done) (instruction-ordered d.instruction) (all-ordered done)
 

@@ -1,6 +1,7 @@
 -- What the moments say that a step adds: samples, parameter reports, and numbers in their ranges.
-use Rattle.std.specs.Prelude.{◌≡◌, ℕ, ◌+◌, ◌*◌, ◌≤◌, ◌<◌, max, ⊤, List, [], ◌∷◌, ◌++◌, length, reverse, map, filter, filter_map, nat_lt, ℤ, pos, true, Option, Some, None, unwrap_or, option_map}
+use Rattle.std.specs.Prelude.{◌≡◌, ℕ, ◌+◌, ◌*◌, ◌^◌, ◌≤◌, ◌<◌, max, ⊤, List, [], ◌∷◌, ◌++◌, length, reverse, map, filter, filter_map, nat_lt, ℤ, pos, true, Option, Some, None, unwrap_or, option_map}
 use Rattle.std.specs.List.{AllByRecursion}
+use Rattle.hk_base.specs.Fields.{FitsSignedOctets}
 use Rattle.hk_base.specs.Fit.{greatest_tag}
 use Rattle.hk_base.specs.Parameters.{parameter, fits}
 use Rattle.hk_base.specs.TailoringParts.{TailoringParts}
@@ -74,7 +75,7 @@ pub record Adds (before : Core) (event : Event) (new : List Moment) (after : Cor
   pub slot_now : after.slot_now ≡ slot_after_event before event
   pub samples : filings new ≡ filed_by before event
 
--- the numbers of an act: requests have counts of 14 bits, at most 255 instructions each, and a sample is of a slot up to the one that runs, with a value that fits its parameter
+-- the numbers of an act: counts have 14 bits, a request has at most 255 instructions, and a sample is of a slot up to the one that runs, of a known parameter and with a value that fits it
 abbrev pub IsActWithin : TailoringParts → ℕ → Act → Type 0
 IsActWithin t slot (Accepted k) = k < 16384
 IsActWithin t slot (TurnedAway k) = k < 16384
@@ -83,7 +84,8 @@ IsActWithin t slot (NotStarted k) = k < 16384
 IsActWithin t slot (Executed k number flag) = (k < 16384) × (number ≤ 255)
 IsActWithin t slot (Completed k refused) = (k < 16384) × (length refused ≤ 255) × AllByRecursion (λ n. n ≤ 255) refused
 IsActWithin t slot Emitted = ⊤
-IsActWithin t slot (Filed id x value) = (x ≤ slot) × ((p : Param) × (parameter t id ≡ Some p) × (fits p value ≡ true))
+IsActWithin t slot (Filed id x value) =
+    (id < 65536) × (x ≤ slot) × FitsSignedOctets 16 value × ((p : Param) × (parameter t id ≡ Some p) × (fits p value ≡ true))
 
 -- a moment within its ranges: a tag that a packet can carry, the numbers of its act, and a packet of at most 65,542 octets
 pub record IsWithin (t : TailoringParts) (slot : ℕ) (m : Moment) : Type 0 where
@@ -92,7 +94,9 @@ pub record IsWithin (t : TailoringParts) (slot : ℕ) (m : Moment) : Type 0 wher
   pub octets : AreOctets m.packet
   pub size : length m.packet ≤ 65542
 
--- a journal that can be written and carried: no more moments than one holds, each within its ranges
+-- A journal that can be written and carried: it has no more moments than it can hold, and each is within its ranges. Tags and slots have at most 56 bits.
 pub record IsJournal (c : Core) : Type 0 where
   pub room : length c.moments ≤ 1048576
+  pub greatest : greatest_tag c.tailoring < 2 ^ 56
+  pub slot : c.slot_now ≤ greatest_tag c.tailoring
   pub moments : AllByRecursion (IsWithin c.tailoring c.slot_now) c.moments

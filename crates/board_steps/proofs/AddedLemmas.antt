@@ -21,7 +21,6 @@ use Rattle.board_steps.specs.Cores.{Core, session, next_tag}
 use Rattle.board_steps.specs.Slots.{is_filed, is_set}
 use Rattle.board_steps.specs.Plans.{Topic, Plan, does, tells, handled_as, handling, prepared, is_barred, execution, next_acts, worked_request, worked_acts, worked_done, topics_of, done_of, settables, own_filing, due_topics, tags_left, planned}
 use Rattle.board_steps.specs.Steps.{IsNext, AreNext, IsStep}
-use Rattle.board_steps.specs.Runs.{IsMade}
 use Rattle.board_steps.specs.Timeline.{Stands, IsFiledBy, AreFiledBy}
 use Rattle.board_steps.specs.SlotRuns.{waiting, filed_sample, filings}
 use Rattle.board_steps.specs.Added.{own_sample, filed_by, Adds}
@@ -150,20 +149,20 @@ filter-same f g same [] = refl
 filter-same f g same (x ∷ xs) = ap₂ (λ b ys. cond b (x ∷ ys) ys) (same x) (filter-same f g same xs)
 
 -- a sample leaves the number of requests that wait
-pub waits-same : (before : Core) (x : Sample) (after : Core) → IsMade before (Filing x) after → waiting after ≡ waiting before
-waits-same before x after made =
-    let m : Moment = made.step.moments.0 in
-    let next = made.step.moments.1 in
-    let more : after.moments ≡ m ∷ before.moments = made.step.moments.2 in
+pub waits-same : (before : Core) (x : Sample) (after : Core) → IsStep before (Filing x) after → waiting after ≡ waiting before
+waits-same before x after step =
+    let m : Moment = step.moments.0 in
+    let next = step.moments.1 in
+    let more : after.moments ≡ m ∷ before.moments = step.moments.2 in
     let none : (k : ℕ) → is_act_of k m.act ≡ false = λ k. ap (is_act_of k) next.follows.0 in
     let same : (k : ℕ) → is_pending (last_act k after.moments) ≡ is_pending (last_act k before.moments) =
-        λ k. ap (λ ms. is_pending (last_act k ms)) more ∙ ap is_pending (last_act-other k m before.moments (none k)) in
+    λ k. ap (λ ms. is_pending (last_act k ms)) more ∙ ap is_pending (last_act-other k m before.moments (none k)) in
     filter-length same
   where
     filter-length : ((k : ℕ) → is_pending (last_act k after.moments) ≡ is_pending (last_act k before.moments)) → waiting after ≡ waiting before
     filter-length same =
         ap length (filter-same (λ k. is_pending (last_act k after.moments)) (λ k. is_pending (last_act k before.moments)) same (range_with_len 0 (length after.requests)))
-        ∙ ap (λ (rs : List (List ℕ)). length (filter (λ k. is_pending (last_act k before.moments)) (range_with_len 0 (length rs)))) made.step.requests
+        ∙ ap (λ (rs : List (List ℕ)). length (filter (λ k. is_pending (last_act k before.moments)) (range_with_len 0 (length rs)))) step.requests
 
 -- where some pass a test the first of them is found
 found-first : (f : ℕ → Bool) (xs : List ℕ) → 0 < length (filter f xs) → (k : ℕ) × (find f xs ≡ Some k) × (f k ≡ true)
@@ -275,30 +274,32 @@ none-filed id slot (m ∷ moments) h = ap₂ (λ a b. a || b) (one m.act h.0) (n
     one Emitted low = refl
 
 -- a slot begins without samples
-pub begins-unfiled : (before after : Core) → Stands before → IsMade before CloseSlot after → (id : ℕ) → is_filed after id ≡ false
-begins-unfiled before after k made id =
+pub begins-unfiled : (before after : Core) → Stands before → IsStep before CloseSlot after → (id : ℕ) → is_filed after id ≡ false
+begins-unfiled before after k step id =
     let p : Core = prepared before CloseSlot in
     let up = all-up-to (session before) p.clock before.slot_now before.slot_now before.moments after.moments (planned before CloseSlot)
-        (closing-up-to p (settables before.tailoring) (take (tags_left p) (due_topics p))) (are-up-to before.tailoring before.slot_now before.moments k.good.filed) made.step.moments in
-    ap (λ n. list_any (λ m. is_filing id n m.act) after.moments) made.step.slot_now ∙ none-filed id before.slot_now after.moments up
+    (closing-up-to p (settables before.tailoring) (take (tags_left p) (due_topics p))) (are-up-to before.tailoring before.slot_now before.moments k.good.filed) step.moments in
+    ap (λ n. list_any (λ m. is_filing id n m.act) after.moments) step.slot_now ∙ none-filed id before.slot_now after.moments up
 
 -- what a step adds, with the requests and the clock that its event leaves
-pub step-parted : (before : Core) (event : Event) (after : Core) → IsMade before event after
+pub step-parted : (before : Core) (event : Event) (after : Core) → IsStep before event after
     → AreParted (session (prepared before event)) (prepared before event).clock before.slot_now before.moments after.moments (planned before event)
-step-parted before event after made =
-    parted (session (prepared before event)) (prepared before event).clock before.slot_now before.moments after.moments (planned before event) made.step.moments
+step-parted before event after step =
+    parted (session (prepared before event)) (prepared before event).clock before.slot_now before.moments after.moments (planned before event) step.moments
 
-pub step-adds : (before : Core) (event : Event) (after : Core) → IsMade before event after → (new : List Moment) × Adds before event new after
-step-adds before event after made =
-    let p = step-parted before event after made in
-    (p.new, record {
-      moments = p.moments;
-      count = p.count;
-      tailoring = made.step.tailoring;
-      slot_now = made.step.slot_now;
-      samples = added-samples (session (prepared before event)) (prepared before event).clock before.slot_now before.moments (planned before event) p.new p.added
-          ∙ planned-samples before event;
-    })
+pub step-adds : (before : Core) (event : Event) (after : Core) → IsStep before event after → (new : List Moment) × Adds before event new after
+step-adds before event after step =
+    let p = step-parted before event after step in (
+      p.new,
+      record {
+        moments = p.moments;
+        count = p.count;
+        tailoring = step.tailoring;
+        slot_now = step.slot_now;
+        samples = added-samples (session (prepared before event)) (prepared before event).clock before.slot_now before.moments (planned before event) p.new p.added
+            ∙ planned-samples before event;
+      },
+    )
 
 own-settable : (c : Core) (ps : List Param) → AllByRecursion (λ p. (parameter c.tailoring p.id ≡ Some p) × (is_settable p ≡ true)) ps
     → AllByRecursion (λ (x : Sample). is_set c.tailoring x.param ≡ true) (map (own_sample c) ps)

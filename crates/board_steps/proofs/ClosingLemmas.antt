@@ -108,7 +108,7 @@ module _ (c : Core) (width : 0 < c.tailoring.widths.slot) (ends : (c.slot_now + 
       let tag : m.tag ≡ next_tag c.clock earlier = h.1.tag in
       let none = ap (done_by (session c) m.tag) h.1.follows.0 in
       let g2 = tells-next (session c) c.clock c.slot_now (c.slot_now + 1) earlier topic m g h.1 (omega (arith, time))
-          (timely earlier same m.tag topic tag (omega (arith, tag, room)) all.0) in
+      (timely earlier same m.tag topic tag (omega (arith, tag, room)) all.0) in
       reports-next (m ∷ earlier) after topics all.1 g2 (λ key. still-structure (session c) m earlier key none ∙ same key)
       (omega (arith, room, more)) (omega (arith, time, more)) h.2
 
@@ -150,12 +150,15 @@ module _ (c : Core) (fit : IsFit c.tailoring) (only : RequestsOnly c.tailoring) 
         handling = tt;
         order = tt;
         outcome = tt;
-        sample = (p, record {
-          known = f.known;
-          fit = subst (λ w. IsTrue (fits p w)) (sym is) v.2;
-          once = f.once;
-          settable = λ set why. f.value ∙ v.1 ∙ ap Some (sym is);
-        });
+        sample = (
+          p,
+          record {
+            known = f.known;
+            fit = subst (λ w. IsTrue (fits p w)) (sym is) v.2;
+            once = f.once;
+            settable = λ set why. f.value ∙ v.1 ∙ ap Some (sym is);
+          },
+        );
         below = tt;
         filed = (omega arith, λ set. omega arith);
       }
@@ -239,11 +242,12 @@ distinct-apart (p ∷ ps) h = (all-unmapped (λ y. nat_eq p.id y ≡ false) ps h
 found-own : (front ps : List Param) (all : List Param) → ((id : ℕ) → AllByRecursion (λ q. (q.id == id) ≡ false) front → find (λ q. q.id == id) all ≡ find (λ q. q.id == id) ps)
     → AllByRecursion (λ p. AllByRecursion (λ q. (q.id == p.id) ≡ false) front) ps → AreIdsApart ps → AllByRecursion (λ p. find (λ q. q.id == p.id) all ≡ Some p) ps
 found-own front [] all skips before apart = tt
-found-own front (p ∷ ps) all skips before apart =
-    (skips p.id before.0 ∙ ap (λ b. cond b (Some p) (find (λ q. q.id == p.id) ps)) (eq-eqb p.id p.id refl),
-    found-own (p ∷ front) ps all
-    (λ id h. skips id h.1 ∙ ap (λ b. cond b (Some p) (find (λ q. q.id == id) ps)) h.0)
-    (both ps before.1 apart.0) apart.1)
+found-own front (p ∷ ps) all skips before apart = (
+  skips p.id before.0 ∙ ap (λ b. cond b (Some p) (find (λ q. q.id == p.id) ps)) (eq-eqb p.id p.id refl),
+  found-own (p ∷ front) ps all
+      (λ id h. skips id h.1 ∙ ap (λ b. cond b (Some p) (find (λ q. q.id == id) ps)) h.0)
+      (both ps before.1 apart.0) apart.1,
+)
   where
     both : (qs : List Param) → AllByRecursion (λ q. AllByRecursion (λ r. (r.id == q.id) ≡ false) front) qs → AllByRecursion (λ q. (p.id == q.id) ≡ false) qs
         → AllByRecursion (λ q. AllByRecursion (λ r. (r.id == q.id) ≡ false) (p ∷ front)) qs
@@ -280,14 +284,15 @@ unfiled c p known set Emitted h = refl
 all-to-file : (c : Core) → AreFiledBy c.tailoring c.slot_now c.moments → (ps : List Param)
     → AllByRecursion (λ p. (find (λ q. q.id == p.id) c.tailoring.params ≡ Some p) × (is_settable p ≡ true)) ps → AllByRecursion (IsToFile c c.moments) ps
 all-to-file c filed [] h = tt
-all-to-file c filed (p ∷ ps) h =
-    (record {
-      known = h.0.0;
-      set = h.0.1;
-      value = refl;
-      once = all-mapped (λ (m : Moment). IsFiledBy c.tailoring c.slot_now m.act) (λ m. IsFalse (is_filing p.id c.slot_now m.act)) (λ m k. unfiled c p h.0.0 h.0.1 m.act k) c.moments filed;
-    },
-    all-to-file c filed ps h.1)
+all-to-file c filed (p ∷ ps) h = (
+  record {
+    known = h.0.0;
+    set = h.0.1;
+    value = refl;
+    once = all-mapped (λ (m : Moment). IsFiledBy c.tailoring c.slot_now m.act) (λ m. IsFalse (is_filing p.id c.slot_now m.act)) (λ m k. unfiled c p h.0.0 h.0.1 m.act k) c.moments filed;
+  },
+  all-to-file c filed ps h.1,
+)
 
 -- each settable parameter is the one with its ID
 pub settables-own : (t : TailoringParts) → IsFit t → AllByRecursion (λ p. (find (λ q. q.id == p.id) t.params ≡ Some p) × (is_settable p ≡ true)) (settables t)

@@ -1,4 +1,4 @@
--- A session with other packets under numbers that no moment names: what was done stays legal and honest. So it does where packets are added.
+-- A session with other packets under numbers that no moment names, whose start is known or not: what was done stays legal and honest. So it does where packets are added.
 use Rattle.std.proofs.Common.{arith, ◌≡◌, ℕ, zero, suc, ◌+◌, ◌-◌, ◌*◌, ◌/◌, ◌%◌, ◌^◌, ◌<◌, ◌≤◌, refl, sym, ◌∙◌, ap, ap₂, subst, List, [], ◌∷◌, ◌++◌, length, filter, map, Bool, true, false, ◌==◌, ◌&&◌, ◌||◌, Option, Some, None, Ok, Err, ◌⊎◌, inl, inr}
 use Rattle.std.specs.Prelude.{⊤, ℤ, IfSome, IsSome, IsNone, IsTrue, IsFalse, MatchBool, unwrap_or, nat_lt, is_none, slice_get, filter_map, option_and_then, option_map, if◌then◌else◌}
 use Rattle.std.specs.List.{AllByRecursion, AllZip, list_any, cons_option}
@@ -26,7 +26,7 @@ use Rattle.hk_world.specs.Timelines.{EachAfter, Session, tailoring, Done, reques
 use Rattle.hk_world.specs.Legal.{TagRises, HandlesNext, HandledBelow, IsRejected, MayFollow, is_pending, begins, IsInOrder, TellsOutcome, IsSample, FilesSample, is_acceptance, is_filing, refused_numbers}
 use Rattle.hk_world.specs.Honest.{Carries, VerifiesIf, IsReport, IsSilent, IsHonestBody, IsParameterReport, IsPeriodicRow, IsStatRow, IsStatisticsReport, IsFiled, cause_of, id_of_packet, samples_of, has_samples}
 use Rattle.hk_world.specs.Worlds.{MayHappen}
-pub use Rattle.board_steps.specs.Timeline.{IsBelow, AreBelow, exchanged, Agrees, AgreeOn}
+pub use Rattle.board_steps.specs.Timeline.{IsBelow, AreBelow, exchanged, on_ground, Agrees, AgreeOn}
 use Rattle.hk_world.specs.declared.moment.Moment.{Moment}
 use Rattle.hk_world.specs.declared.moment.Act.{Act}
 use Rattle.hk_world.specs.declared.moment.Act.TheVariants.{Accepted, TurnedAway, Started, NotStarted, Executed, Completed, Emitted, Filed}
@@ -44,34 +44,34 @@ slice_get-front (x ∷ xs) ys (suc k) h = slice_get-front xs ys k (omega (arith,
 abbrev pub request_in : Session → Option (List ℕ) → Option Request
 request_in s o = option_and_then (λ packet. result_ok (s.protocol.request packet)) o
 
-pub done-agrees : (s : Session) (other : List (List ℕ)) (tag : ℕ) (act : Act) → Agrees s.requests other act → done_by s tag act ≡ done_by (exchanged s other) tag act
-done-agrees s other tag (Executed k number true) h =
+pub done-ground : (s : Session) (known : Bool) (other : List (List ℕ)) (tag : ℕ) (act : Act) → Agrees s.requests other act → done_by s tag act ≡ done_by (on_ground s known other) tag act
+done-ground s known other tag (Executed k number true) h =
     ap (λ o. option_map (λ x. record { tag = tag; request = k; instruction = x }) (option_and_then (λ r. instruction r number) (request_in s o))) h
-done-agrees s other tag (Executed k number false) h = refl
-done-agrees s other tag (Accepted k) h = refl
-done-agrees s other tag (TurnedAway k) h = refl
-done-agrees s other tag (Started k) h = refl
-done-agrees s other tag (NotStarted k) h = refl
-done-agrees s other tag (Completed k refused) h = refl
-done-agrees s other tag Emitted h = refl
-done-agrees s other tag (Filed param slot value) h = refl
+done-ground s known other tag (Executed k number false) h = refl
+done-ground s known other tag (Accepted k) h = refl
+done-ground s known other tag (TurnedAway k) h = refl
+done-ground s known other tag (Started k) h = refl
+done-ground s known other tag (NotStarted k) h = refl
+done-ground s known other tag (Completed k refused) h = refl
+done-ground s known other tag Emitted h = refl
+done-ground s known other tag (Filed param slot value) h = refl
 
-pub dones-agrees : (s : Session) (other : List (List ℕ)) (moments : List Moment) → AgreeOn s.requests other moments
-    → done_instructions s moments ≡ done_instructions (exchanged s other) moments
-dones-agrees s other [] h = refl
-dones-agrees s other (m ∷ earlier) h = ap₂ (λ o xs. cons_option o xs) (done-agrees s other m.tag m.act h.0) (dones-agrees s other earlier h.1)
+pub dones-ground : (s : Session) (known : Bool) (other : List (List ℕ)) (moments : List Moment) → AgreeOn s.requests other moments
+    → done_instructions s moments ≡ done_instructions (on_ground s known other) moments
+dones-ground s known other [] h = refl
+dones-ground s known other (m ∷ earlier) h = ap₂ (λ o xs. cons_option o xs) (done-ground s known other m.tag m.act h.0) (dones-ground s known other earlier h.1)
 
-restarts-agrees : (s : Session) (other : List (List ℕ)) (moments : List Moment) → AgreeOn s.requests other moments
-    → restarts s moments ≡ restarts (exchanged s other) moments
-restarts-agrees s other [] h = refl
-restarts-agrees s other (m ∷ []) h = rw (done-agrees s other m.tag m.act h.0)
-restarts-agrees s other (m ∷ e ∷ earlier) h = rw (done-agrees s other m.tag m.act h.0) (rw (done-agrees s other e.tag e.act h.1.0))
+restarts-ground : (s : Session) (known : Bool) (other : List (List ℕ)) (moments : List Moment) → AgreeOn s.requests other moments
+    → restarts s moments ≡ restarts (on_ground s known other) moments
+restarts-ground s known other [] h = refl
+restarts-ground s known other (m ∷ []) h = rw (done-ground s known other m.tag m.act h.0)
+restarts-ground s known other (m ∷ e ∷ earlier) h = rw (done-ground s known other m.tag m.act h.0) (rw (done-ground s known other e.tag e.act h.1.0))
 
-start-agrees : (s : Session) (other : List (List ℕ)) (moments : List Moment) → AgreeOn s.requests other moments
-    → start_after s moments ≡ start_after (exchanged s other) moments
-start-agrees s other [] h = refl
-start-agrees s other (m ∷ earlier) h =
-    ap₂ (λ b n. if b then m.tag else n) (restarts-agrees s other (m ∷ earlier) h) (start-agrees s other earlier h.1)
+start-ground : (s : Session) (known : Bool) (other : List (List ℕ)) (moments : List Moment) → AgreeOn s.requests other moments
+    → start_after s moments ≡ start_after (on_ground s known other) moments
+start-ground s known other [] h = refl
+start-ground s known other (m ∷ earlier) h =
+    ap₂ (λ b n. if b then m.tag else n) (restarts-ground s known other (m ∷ earlier) h) (start-ground s known other earlier h.1)
 
 -- the state that is left by some instructions
 abbrev pub state_by : Session → List Moment → List Done → ℕ → BoardState
@@ -88,9 +88,9 @@ state_by s moments done start =
       start = start;
     }
 
-pub state-agrees : (s : Session) (other : List (List ℕ)) (moments : List Moment) → AgreeOn s.requests other moments
-    → state_after s moments ≡ state_after (exchanged s other) moments
-state-agrees s other moments h = ap₂ (λ d n. state_by s moments d n) (dones-agrees s other moments h) (start-agrees s other moments h)
+pub state-ground : (s : Session) (known : Bool) (other : List (List ℕ)) (moments : List Moment) → AgreeOn s.requests other moments
+    → state_after s moments ≡ state_after (on_ground s known other) moments
+state-ground s known other moments h = ap₂ (λ d n. state_by s moments d n) (dones-ground s known other moments h) (start-ground s known other moments h)
 
 AllZip-mapped : {A B : Type 0} (P Q : A → B → Type 0) → ((x : A) (y : B) → P x y → Q x y) → (xs : List A) (ys : List B) → AllZip P xs ys → AllZip Q xs ys
 AllZip-mapped P Q f [] [] h = tt
@@ -99,10 +99,10 @@ AllZip-mapped P Q f (x ∷ xs) [] h = absurd h
 AllZip-mapped P Q f (x ∷ xs) (y ∷ ys) h = (f x y h.0, AllZip-mapped P Q f xs ys h.1)
 
 -- a body that is honest in one session is so in one that leaves the same state
-honest-agrees : (s : Session) (other : List (List ℕ)) (earlier : List Moment) (tag : ℕ) (body : ReportBody)
-    → state_after s earlier ≡ state_after (exchanged s other) earlier → IsHonestBody s earlier tag body → IsHonestBody (exchanged s other) earlier tag body
-honest-agrees s other earlier tag (Verify v) e h = absurd h
-honest-agrees s other earlier tag (Hk (hk.Values key payload)) e h =
+honest-ground : (s : Session) (known : Bool) (other : List (List ℕ)) (earlier : List Moment) (tag : ℕ) (body : ReportBody)
+    → state_after s earlier ≡ state_after (on_ground s known other) earlier → IsHonestBody s earlier tag body → IsHonestBody (on_ground s known other) earlier tag body
+honest-ground s known other earlier tag (Verify v) e h = absurd h
+honest-ground s known other earlier tag (Hk (hk.Values key payload)) e h =
     record {
       structure = h.structure;
       values = h.values;
@@ -111,23 +111,23 @@ honest-agrees s other earlier tag (Hk (hk.Values key payload)) e h =
       samples = h.samples;
       payload_is = h.payload_is;
     }
-honest-agrees s other earlier tag (Hk (hk.Structure key x)) e h = subst (λ (y : BoardState). y.structure key ≡ Some x) e h
-honest-agrees s other earlier tag (Hk (hk.Periodic kind rows)) e h = go rows h
+honest-ground s known other earlier tag (Hk (hk.Structure key x)) e h = subst (λ (y : BoardState). y.structure key ≡ Some x) e h
+honest-ground s known other earlier tag (Hk (hk.Periodic kind rows)) e h = go rows h
   where
-    go : (rs : List PeriodicRow) → AllByRecursion (IsPeriodicRow s earlier kind) rs → AllByRecursion (IsPeriodicRow (exchanged s other) earlier kind) rs
+    go : (rs : List PeriodicRow) → AllByRecursion (IsPeriodicRow s earlier kind) rs → AllByRecursion (IsPeriodicRow (on_ground s known other) earlier kind) rs
     go [] k = tt
     go (r ∷ rs) k =
         ((k.0.0, subst (λ (y : BoardState). y.structure (record { kind = kind; id = r.id }) ≡ Some k.0.0) e k.0.1, k.0.2, k.0.3), go rs k.1)
-honest-agrees s other earlier tag (Stat (stat.Statistics r)) e h =
+honest-ground s known other earlier tag (Stat (stat.Statistics r)) e h =
     record {
       start = subst (λ (y : BoardState). r.start ≡ y.start) e h.start;
       end = h.end;
-      rows = AllZip-mapped (IsStatRow s earlier) (IsStatRow (exchanged s other) earlier) row
-          (filter (λ m. has_samples (samples_of (state_after (exchanged s other) earlier) earlier m)) (state_after (exchanged s other) earlier).statistics.members) r.rows
+      rows = AllZip-mapped (IsStatRow s earlier) (IsStatRow (on_ground s known other) earlier) row
+          (filter (λ m. has_samples (samples_of (state_after (on_ground s known other) earlier) earlier m)) (state_after (on_ground s known other) earlier).statistics.members) r.rows
           (subst (λ (y : BoardState). AllZip (IsStatRow s earlier) (filter (λ m. has_samples (samples_of y earlier m)) y.statistics.members) r.rows) e h.rows);
     }
   where
-    row : (m : Member) (r : StatRow) → IsStatRow s earlier m r → IsStatRow (exchanged s other) earlier m r
+    row : (m : Member) (r : StatRow) → IsStatRow s earlier m r → IsStatRow (on_ground s known other) earlier m r
     row m r k =
         record {
           param = k.param;
@@ -138,9 +138,9 @@ honest-agrees s other earlier tag (Stat (stat.Statistics r)) e h =
           summary = subst (λ (y : BoardState). IsSummary (tailoring s).widths.mean_fraction (samples_of y earlier m)
               (record { count = r.count; max = r.max; max_slot = k.max_slot; min = r.min; min_slot = k.min_slot; mean = r.mean })) e k.summary;
         }
-honest-agrees s other earlier tag (Stat (stat.Definitions enabled interval params)) e h =
+honest-ground s known other earlier tag (Stat (stat.Definitions enabled interval params)) e h =
     subst (λ (y : BoardState). (y.statistics.enabled ≡ enabled) × (y.statistics.interval ≡ interval) × (map (λ m. m.param) y.statistics.members ≡ params)) e h
-honest-agrees s other earlier tag (Par r) e h =
+honest-ground s known other earlier tag (Par r) e h =
     subst (λ (y : BoardState). AllByRecursion (λ x. y.value x.param ≡ Some x.value) r.pairs) e h
 
 -- what a request's packet tells of it
@@ -163,105 +163,130 @@ several_in s o = nat_lt 1 (length (instructions_in s o))
 abbrev pub IsRefusedIn : Session → BoardState → Instruction → Cause → Type 0
 IsRefusedIn s y x c = (r : Refusal) × (refusal (tailoring s) y x ≡ Some r) × (c ≡ cause_of r)
 
-pub carries-agrees : (s : Session) (other : List (List ℕ)) (earlier : List Moment) (m : Moment) (act : Act) → AgreeOn s.requests other earlier
-    → Agrees s.requests other act → Carries s earlier m act → Carries (exchanged s other) earlier m act
-carries-agrees s other earlier m (Accepted k) a b h =
+pub carries-ground : (s : Session) (known : Bool) (other : List (List ℕ)) (earlier : List Moment) (m : Moment) (act : Act) → AgreeOn s.requests other earlier
+    → Agrees s.requests other act → Carries s earlier m act → Carries (on_ground s known other) earlier m act
+carries-ground s known other earlier m (Accepted k) a b h =
     subst (λ o. VerifiesIf (asks_in 0 s o) s m (verify.Accepted (id_in o))) b h
-carries-agrees s other earlier m (TurnedAway k) a b h =
+carries-ground s known other earlier m (TurnedAway k) a b h =
     (h.0, h.1, sym b ∙ h.2, h.3, subst (λ o. IsReport s m (Verify (verify.Refused (id_in o) h.1))) b h.4)
-carries-agrees s other earlier m (Started k) a b h =
+carries-ground s known other earlier m (Started k) a b h =
     subst (λ o. VerifiesIf (asks_in 1 s o) s m (verify.Started (id_in o))) b h
-carries-agrees s other earlier m (NotStarted k) a b h =
+carries-ground s known other earlier m (NotStarted k) a b h =
     let e = b in
-    let f = state-agrees s other earlier a in
-    (h.0, h.1, subst (λ o. instructions_in s o ≡ h.0 ∷ []) e h.2, subst (λ y. IsRefusedIn s y h.0 h.1) f h.3,
-    subst (λ o. IsReport s m (Verify (verify.NotStarted (id_in o) h.1))) e h.4)
-carries-agrees s other earlier m (Executed k number true) a b h =
+    let f = state-ground s known other earlier a in (
+      h.0,
+      h.1,
+      subst (λ o. instructions_in s o ≡ h.0 ∷ []) e h.2,
+      subst (λ y. IsRefusedIn s y h.0 h.1) f h.3,
+      subst (λ o. IsReport s m (Verify (verify.NotStarted (id_in o) h.1))) e h.4,
+    )
+carries-ground s known other earlier m (Executed k number true) a b h =
     subst (λ o. VerifiesIf (several_in s o && asks_in 2 s o) s m (verify.Step (id_in o) number)) b h
-carries-agrees s other earlier m (Executed k number false) a b h =
+carries-ground s known other earlier m (Executed k number false) a b h =
     let e = b in
-    let f = state-agrees s other earlier a in
+    let f = state-ground s known other earlier a in
     let P : Option (List ℕ) → BoardState → Type 0 = λ o y. MatchBool (several_in s o)
-        ((x : Instruction) × (c : Cause) × (instruction_in s o number ≡ Some x) × IsRefusedIn s y x c × IsReport s m (Verify (verify.StepFailed (id_in o) number c)))
-        (IsSilent m) in
-    subst (λ y. P (slice_get (exchanged s other).requests k) y) f (subst (λ o. P o (state_after s earlier)) e h)
-carries-agrees s other earlier m (Completed k []) a b h =
+    ((x : Instruction) × (c : Cause) × (instruction_in s o number ≡ Some x) × IsRefusedIn s y x c × IsReport s m (Verify (verify.StepFailed (id_in o) number c)))
+    (IsSilent m) in
+    subst (λ y. P (slice_get (on_ground s known other).requests k) y) f (subst (λ o. P o (state_after s earlier)) e h)
+carries-ground s known other earlier m (Completed k []) a b h =
     subst (λ o. VerifiesIf (asks_in 3 s o) s m (verify.Completed (id_in o))) b h
-carries-agrees s other earlier m (Completed k (number ∷ numbers)) a b h =
+carries-ground s known other earlier m (Completed k (number ∷ numbers)) a b h =
     subst (λ o. IsReport s m (Verify (verify.Incomplete (id_in o) 200 (number ∷ numbers)))) b h
-carries-agrees s other earlier m Emitted a b h = (h.0, h.1, honest-agrees s other earlier m.tag h.0 (state-agrees s other earlier a) h.2)
-carries-agrees s other earlier m (Filed param slot value) a b h = h
+carries-ground s known other earlier m Emitted a b h = (h.0, h.1, honest-ground s known other earlier m.tag h.0 (state-ground s known other earlier a) h.2)
+carries-ground s known other earlier m (Filed param slot value) a b h = h
 
-handles-agrees : (s : Session) (other : List (List ℕ)) (earlier : List Moment) (act : Act) → Agrees s.requests other act
-    → HandlesNext s earlier act → HandlesNext (exchanged s other) earlier act
-handles-agrees s other earlier (Accepted k) b h = (h.0, subst (λ o. IsSome (request_in s o)) b h.1)
-handles-agrees s other earlier (TurnedAway k) b h =
+handles-ground : (s : Session) (known : Bool) (other : List (List ℕ)) (earlier : List Moment) (act : Act) → Agrees s.requests other act
+    → HandlesNext s earlier act → HandlesNext (on_ground s known other) earlier act
+handles-ground s known other earlier (Accepted k) b h = (h.0, subst (λ o. IsSome (request_in s o)) b h.1)
+handles-ground s known other earlier (TurnedAway k) b h =
     (h.0, (h.1.0, h.1.1, sym b ∙ h.1.2, h.1.3))
-handles-agrees s other earlier (Started k) b h = tt
-handles-agrees s other earlier (NotStarted k) b h = tt
-handles-agrees s other earlier (Executed k number flag) b h = tt
-handles-agrees s other earlier (Completed k refused) b h = tt
-handles-agrees s other earlier Emitted b h = tt
-handles-agrees s other earlier (Filed param slot value) b h = tt
+handles-ground s known other earlier (Started k) b h = tt
+handles-ground s known other earlier (NotStarted k) b h = tt
+handles-ground s known other earlier (Executed k number flag) b h = tt
+handles-ground s known other earlier (Completed k refused) b h = tt
+handles-ground s known other earlier Emitted b h = tt
+handles-ground s known other earlier (Filed param slot value) b h = tt
 
-order-agrees : (s : Session) (other : List (List ℕ)) (earlier : List Moment) (act : Act) (number : Option ℕ) → IfSome number (λ k. slice_get s.requests k ≡ slice_get other k)
-    → IfSome number (IsInOrder s earlier act) → IfSome number (IsInOrder (exchanged s other) earlier act)
-order-agrees s other earlier act None b h = tt
-order-agrees s other earlier act (Some k) b h =
+order-ground : (s : Session) (known : Bool) (other : List (List ℕ)) (earlier : List Moment) (act : Act) (number : Option ℕ) → IfSome number (λ k. slice_get s.requests k ≡ slice_get other k)
+    → IfSome number (IsInOrder s earlier act) → IfSome number (IsInOrder (on_ground s known other) earlier act)
+order-ground s known other earlier act None b h = tt
+order-ground s known other earlier act (Some k) b h =
     record { order = subst (λ o. MayFollow (length (instructions_in s o)) (last_act k earlier) act) b h.order; turn = h.turn }
 
-outcome-agrees : (s : Session) (other : List (List ℕ)) (earlier : List Moment) (act : Act) → AgreeOn s.requests other earlier → Agrees s.requests other act
-    → TellsOutcome s earlier act → TellsOutcome (exchanged s other) earlier act
-outcome-agrees s other earlier (Executed k number flag) a b h =
-    (h.0, subst (λ o. instruction_in s o number ≡ Some h.0) b h.1,
-    subst (λ y. flag ≡ is_none (refusal (tailoring s) y h.0)) (state-agrees s other earlier a) h.2)
-outcome-agrees s other earlier (NotStarted k) a b h =
-    (h.0, subst (λ o. instructions_in s o ≡ h.0 ∷ []) b h.1,
-    subst (λ y. IsSome (refusal (tailoring s) y h.0)) (state-agrees s other earlier a) h.2)
-outcome-agrees s other earlier (Started k) a b h =
-    λ x e. subst (λ y. IsNone (refusal (tailoring s) y x)) (state-agrees s other earlier a)
+outcome-ground : (s : Session) (known : Bool) (other : List (List ℕ)) (earlier : List Moment) (act : Act) → AgreeOn s.requests other earlier → Agrees s.requests other act
+    → TellsOutcome s earlier act → TellsOutcome (on_ground s known other) earlier act
+outcome-ground s known other earlier (Executed k number flag) a b h = (
+  h.0,
+  subst (λ o. instruction_in s o number ≡ Some h.0) b h.1,
+  subst (λ y. flag ≡ is_none (refusal (tailoring s) y h.0)) (state-ground s known other earlier a) h.2,
+)
+outcome-ground s known other earlier (NotStarted k) a b h = (
+  h.0,
+  subst (λ o. instructions_in s o ≡ h.0 ∷ []) b h.1,
+  subst (λ y. IsSome (refusal (tailoring s) y h.0)) (state-ground s known other earlier a) h.2,
+)
+outcome-ground s known other earlier (Started k) a b h =
+    λ x e. subst (λ y. IsNone (refusal (tailoring s) y x)) (state-ground s known other earlier a)
     (h x (subst (λ o. instructions_in s o ≡ x ∷ []) (sym b) e))
-outcome-agrees s other earlier (Completed k refused) a b h = h
-outcome-agrees s other earlier (Accepted k) a b h = tt
-outcome-agrees s other earlier (TurnedAway k) a b h = tt
-outcome-agrees s other earlier Emitted a b h = tt
-outcome-agrees s other earlier (Filed param slot value) a b h = tt
+outcome-ground s known other earlier (Completed k refused) a b h = h
+outcome-ground s known other earlier (Accepted k) a b h = tt
+outcome-ground s known other earlier (TurnedAway k) a b h = tt
+outcome-ground s known other earlier Emitted a b h = tt
+outcome-ground s known other earlier (Filed param slot value) a b h = tt
 
-sample-agrees : (s : Session) (other : List (List ℕ)) (earlier : List Moment) (act : Act) → AgreeOn s.requests other earlier
-    → FilesSample s earlier act → FilesSample (exchanged s other) earlier act
-sample-agrees s other earlier (Filed id slot value) a h =
-    (h.0,
-    record {
-      known = h.1.known;
-      fit = h.1.fit;
-      once = h.1.once;
-      settable = λ set why. subst (λ (y : BoardState). y.value id ≡ Some value) (state-agrees s other earlier a) (h.1.settable set why);
-    })
-sample-agrees s other earlier (Accepted k) a h = tt
-sample-agrees s other earlier (TurnedAway k) a h = tt
-sample-agrees s other earlier (Started k) a h = tt
-sample-agrees s other earlier (NotStarted k) a h = tt
-sample-agrees s other earlier (Executed k number flag) a h = tt
-sample-agrees s other earlier (Completed k refused) a h = tt
-sample-agrees s other earlier Emitted a h = tt
+sample-ground : (s : Session) (known : Bool) (other : List (List ℕ)) (earlier : List Moment) (act : Act) → AgreeOn s.requests other earlier
+    → FilesSample s earlier act → FilesSample (on_ground s known other) earlier act
+sample-ground s known other earlier (Filed id slot value) a h = (
+  h.0,
+  record {
+    known = h.1.known;
+    fit = h.1.fit;
+    once = h.1.once;
+    settable = λ set why. subst (λ (y : BoardState). y.value id ≡ Some value) (state-ground s known other earlier a) (h.1.settable set why);
+  },
+)
+sample-ground s known other earlier (Accepted k) a h = tt
+sample-ground s known other earlier (TurnedAway k) a h = tt
+sample-ground s known other earlier (Started k) a h = tt
+sample-ground s known other earlier (NotStarted k) a h = tt
+sample-ground s known other earlier (Executed k number flag) a h = tt
+sample-ground s known other earlier (Completed k refused) a h = tt
+sample-ground s known other earlier Emitted a h = tt
 
 -- what may happen may happen in a session with other requests too
-pub happens-agrees : (s : Session) (other : List (List ℕ)) (earlier : List Moment) (m : Moment) → AgreeOn s.requests other earlier
-    → Agrees s.requests other m.act → MayHappen s earlier m → MayHappen (exchanged s other) earlier m
-happens-agrees s other earlier m a b h =
+pub happens-ground : (s : Session) (known : Bool) (other : List (List ℕ)) (earlier : List Moment) (m : Moment) → AgreeOn s.requests other earlier
+    → Agrees s.requests other m.act → MayHappen s earlier m → MayHappen (on_ground s known other) earlier m
+happens-ground s known other earlier m a b h =
     record {
       tag = record { low = h.tag.low; high = h.tag.high; above = h.tag.above };
-      handling = handles-agrees s other earlier m.act b h.handling;
-      order = order-agrees s other earlier m.act (request_number m.act) b h.order;
-      outcome = outcome-agrees s other earlier m.act a b h.outcome;
-      sample = sample-agrees s other earlier m.act a h.sample;
-      packet = carries-agrees s other earlier m m.act a b h.packet;
+      handling = handles-ground s known other earlier m.act b h.handling;
+      order = order-ground s known other earlier m.act (request_number m.act) b h.order;
+      outcome = outcome-ground s known other earlier m.act a b h.outcome;
+      sample = sample-ground s known other earlier m.act a h.sample;
+      packet = carries-ground s known other earlier m m.act a b h.packet;
     }
+
+pub timeline-ground : (s : Session) (known : Bool) (other : List (List ℕ)) (moments : List Moment) → AgreeOn s.requests other moments
+    → EachAfter (MayHappen s) moments → EachAfter (MayHappen (on_ground s known other)) moments
+timeline-ground s known other [] a h = tt
+timeline-ground s known other (m ∷ earlier) a h = (happens-ground s known other earlier m a.1 a.0 h.0, timeline-ground s known other earlier a.1 h.1)
+
+-- so it is in a session with the same start flag
+pub done-agrees : (s : Session) (other : List (List ℕ)) (tag : ℕ) (act : Act) → Agrees s.requests other act → done_by s tag act ≡ done_by (exchanged s other) tag act
+done-agrees s other tag act h = done-ground s s.known other tag act h
+
+pub dones-agrees : (s : Session) (other : List (List ℕ)) (moments : List Moment) → AgreeOn s.requests other moments
+    → done_instructions s moments ≡ done_instructions (exchanged s other) moments
+dones-agrees s other moments h = dones-ground s s.known other moments h
+
+pub state-agrees : (s : Session) (other : List (List ℕ)) (moments : List Moment) → AgreeOn s.requests other moments
+    → state_after s moments ≡ state_after (exchanged s other) moments
+state-agrees s other moments h = state-ground s s.known other moments h
 
 pub timeline-agrees : (s : Session) (other : List (List ℕ)) (moments : List Moment) → AgreeOn s.requests other moments
     → EachAfter (MayHappen s) moments → EachAfter (MayHappen (exchanged s other)) moments
-timeline-agrees s other [] a h = tt
-timeline-agrees s other (m ∷ earlier) a h = (happens-agrees s other earlier m a.1 a.0 h.0, timeline-agrees s other earlier a.1 h.1)
+timeline-agrees s other moments a h = timeline-ground s s.known other moments a h
 
 -- a packet in front stays where others are added
 agree-grown : (requests more : List (List ℕ)) (act : Act) → IsBelow (length requests) act → Agrees requests (requests ++ more) act
@@ -277,4 +302,4 @@ agree-all requests more (m ∷ moments) h = (agree-grown requests more m.act h.0
 
 pub timeline-grown : (s : Session) (more : List (List ℕ)) (moments : List Moment) → AreBelow (length s.requests) moments
     → EachAfter (MayHappen s) moments → EachAfter (MayHappen (grown s more)) moments
-timeline-grown s more moments a h = timeline-agrees s (s.requests ++ more) moments (agree-all s.requests more moments a) h
+timeline-grown s more moments a h = timeline-ground s s.known (s.requests ++ more) moments (agree-all s.requests more moments a) h

@@ -240,10 +240,11 @@ module _ (c : Core) (fit : IsFit c.tailoring) (only : RequestsOnly c.tailoring) 
   act-within slot earlier (Executed k number flag) h before below filed order outcome sample =
       (omega (arith, below, room), number-few k number outcome.0 outcome.1)
   act-within slot earlier (Completed k refused) h before below filed order outcome sample =
-      let few = completed-few (length (instructions_at (session c) k)) k (length (refused_so_far k earlier)) refused (last_act k earlier) order.order (refused-few (session c) k earlier h) in
-      (omega (arith, below, room),
-      omega (arith, ap length outcome, length-reverse (refused_so_far k earlier), few, count-few k),
-      subst (AllByRecursion (λ n. n ≤ 255)) (sym outcome) (all-reverse (λ n. n ≤ 255) (refused_so_far k earlier) (refused-small c.tailoring slot k earlier before)))
+      let few = completed-few (length (instructions_at (session c) k)) k (length (refused_so_far k earlier)) refused (last_act k earlier) order.order (refused-few (session c) k earlier h) in (
+        omega (arith, below, room),
+        omega (arith, ap length outcome, length-reverse (refused_so_far k earlier), few, count-few k),
+        subst (AllByRecursion (λ n. n ≤ 255)) (sym outcome) (all-reverse (λ n. n ≤ 255) (refused_so_far k earlier) (refused-small c.tailoring slot k earlier before)),
+      )
   act-within slot earlier Emitted h before below filed order outcome sample = tt
   act-within slot earlier (Filed id x value) h before below filed order outcome sample =
       sample-small slot id x value sample.0 sample.1.known sample.1.fit filed.0
@@ -281,14 +282,15 @@ module _ (c : Core) (fit : IsFit c.tailoring) (only : RequestsOnly c.tailoring) 
   moments-within : (slot : ℕ) (moments : List Moment) → EachAfter (MayHappen (session c)) moments → AllByRecursion (λ m. AreOctets m.packet) moments
       → AllByRecursion (λ m. IsActWithin c.tailoring slot m.act) moments → AllByRecursion (IsWithin c.tailoring slot) moments
   moments-within slot [] h packets acts = tt
-  moments-within slot (m ∷ earlier) h packets acts =
-      (record {
-        tag = h.0.tag.high;
-        act = acts.0;
-        octets = packets.0;
-        size = packet-size earlier m m.act h.0.packet packets.0;
-      },
-      moments-within slot earlier h.1 packets.1 acts.1)
+  moments-within slot (m ∷ earlier) h packets acts = (
+    record {
+      tag = h.0.tag.high;
+      act = acts.0;
+      octets = packets.0;
+      size = packet-size earlier m m.act h.0.packet packets.0;
+    },
+    moments-within slot earlier h.1 packets.1 acts.1,
+  )
 
 -- the greatest tag has at most 56 bits
 greatest-few : (t : TailoringParts) → IsFit t → greatest_tag t < 2 ^ 56

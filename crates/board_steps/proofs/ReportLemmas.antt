@@ -38,8 +38,7 @@ use Rattle.board_steps.specs.Cores.{Core, session, state_of, next_tag}
 use Rattle.board_steps.specs.Slots.{filed_at, sample_at, is_set, has_sample}
 use Rattle.board_steps.specs.Plans.{Topic, samples_of, structure_of, properties_of, statistics, definitions, values_of, Plan, does, tells, handled_as, handling, prepared, worked_request, worked_acts, worked_done, topics_of, settables, own_filing, every_key, is_reported, due_topics, tags_left, planned}
 use Rattle.board_steps.specs.Slots.{is_statistics_due}
-use Rattle.board_steps.specs.Steps.{IsAbout, IsNext, AreNext}
-use Rattle.board_steps.specs.Runs.{IsMade}
+use Rattle.board_steps.specs.Steps.{IsAbout, IsNext, AreNext, IsStep}
 use Rattle.board_steps.specs.Added.{Reported, body_key, report_key, parameter_reports, tagged, first_report_tag, reports_due}
 use Rattle.board_steps.specs.declared.event.Event.{Event}
 use Rattle.board_steps.specs.declared.event.Event.TheVariants.{Uplink, Clock, Work, Filing, CloseSlot}
@@ -282,7 +281,7 @@ next-sampled s clock slot earlier after [] place h = ap (λ ms. is_some (sample_
 next-sampled s clock slot earlier after (plan ∷ plans) place h =
     next-sampled s clock slot (h.0 ∷ earlier) after plans place h.2
     ∙ ap (λ b. list_any (plan_filed place) plans || b)
-        (some-or (filed_at place h.0.act) (sample_at place earlier) ∙ ap (λ b. b || is_some (sample_at place earlier)) (next-filed s clock slot earlier place plan h.0 h.1))
+    (some-or (filed_at place h.0.act) (sample_at place earlier) ∙ ap (λ b. b || is_some (sample_at place earlier)) (next-filed s clock slot earlier place plan h.0 h.1))
     ∙ turn-or (list_any (plan_filed place) plans) (plan_filed place plan) (is_some (sample_at place earlier))
 
 topics-filed : (place : Place) (topics : List Topic) → list_any (plan_filed place) (map tells topics) ≡ false
@@ -354,18 +353,18 @@ or-none true = refl
 or-none false = refl
 
 -- a place counts as sampled where a sample of it stands once the slot has ended
-pub place-sampled : (before after : Core) → IsFit before.tailoring → IsMade before CloseSlot after → (place : Place)
+pub place-sampled : (before after : Core) → IsFit before.tailoring → IsStep before CloseSlot after → (place : Place)
     → has_sample before place ≡ is_some (sample_at place after.moments)
-place-sampled before after fit made place =
+place-sampled before after fit step place =
     let p : Core = prepared before CloseSlot in
     let topics : List Topic = take (tags_left p) (due_topics p) in
     let ps : List Param = settables before.tailoring in
     let filed : list_any (plan_filed place) (planned before CloseSlot) ≡ (place.slot == before.slot_now && is_set before.tailoring place.param) =
-        list_any-append (plan_filed place) (map (λ q. does (own_filing p q)) ps) (map tells topics)
-        ∙ ap₂ (λ a b. a || b) (own-sampled p place ps) (topics-filed place topics)
-        ∙ or-none ((before.slot_now == place.slot) && names place.param ps)
-        ∙ ap₂ (λ a b. a && b) (swap-eq before.slot_now place.slot) (settable-named place.param before.tailoring.params (distinct-apart before.tailoring.params fit.ids)) in
-    sym (next-sampled (session p) p.clock before.slot_now before.moments after.moments (planned before CloseSlot) place made.step.moments
+    list_any-append (plan_filed place) (map (λ q. does (own_filing p q)) ps) (map tells topics)
+    ∙ ap₂ (λ a b. a || b) (own-sampled p place ps) (topics-filed place topics)
+    ∙ or-none ((before.slot_now == place.slot) && names place.param ps)
+    ∙ ap₂ (λ a b. a && b) (swap-eq before.slot_now place.slot) (settable-named place.param before.tailoring.params (distinct-apart before.tailoring.params fit.ids)) in
+    sym (next-sampled (session p) p.clock before.slot_now before.moments after.moments (planned before CloseSlot) place step.moments
     ∙ ap (λ b. b || is_some (sample_at place before.moments)) filed)
 
 -- what is told after an event, of the session that the event leaves
@@ -384,11 +383,11 @@ prepared-tailoring c (Filing x) = refl
 prepared-tailoring c CloseSlot = refl
 
 -- the parameter reports that a step adds are those that are due
-pub step-told : (before : Core) (event : Event) (after : Core) (new : List Moment) → IsMade before event after → after.moments ≡ reverse new ++ before.moments
+pub step-told : (before : Core) (event : Event) (after : Core) (new : List Moment) → IsStep before event after → after.moments ≡ reverse new ++ before.moments
     → parameter_reports (session before).protocol new ≡ reports_due before event
-step-told before event after new made e =
+step-told before event after new step e =
     let p : Core = prepared before event in
-    let parts = step-parted before event after made in
+    let parts = step-parted before event after step in
     let turned : reverse parts.new ≡ reverse new = append_cancel_right (reverse parts.new) (reverse new) before.moments (sym parts.moments ∙ e) in
     let same : parts.new ≡ new = sym (reverse-reverse parts.new) ∙ ap reverse turned ∙ reverse-reverse new in
     let told = step-told-in p.tailoring p.requests before event p.clock parts.new refl parts.added in

@@ -21,6 +21,7 @@ use Rattle.hk_world.specs.States.{boot_state}
 use Rattle.hk_world.specs.Timelines.{EachAfter, Session, tailoring, request_at, instructions_at, request_number, is_act_of, last_act}
 use Rattle.hk_world.specs.Legal.{HandledBelow, handled_number, is_pending, MayFollow, is_filing, IsLegal}
 use Rattle.hk_world.specs.Honest.{IsHonest, Carries}
+use Rattle.hk_world.specs.Worlds.{MayHappen}
 pub use Rattle.board_steps.specs.Timeline.{Stands}
 use Rattle.hk_world.specs.declared.moment.Moment.{Moment}
 use Rattle.hk_world.specs.declared.moment.Act.{Act}
@@ -34,7 +35,7 @@ use Rattle.board_steps.specs.Runs.{IsMade, IsRun}
 use Rattle.board_steps.specs.declared.event.Event.{Event}
 use Rattle.board_steps.specs.declared.event.Event.TheVariants.{Uplink, Clock, Work, Filing, CloseSlot}
 use Rattle.board_steps.specs.declared.event.Sample.{Sample}
-use Rattle.board_steps.proofs.GrownLemmas.{grown, exchanged, AgreeOn, IsBelow, AreBelow, timeline-grown, timeline-agrees}
+use Rattle.board_steps.proofs.GrownLemmas.{grown, on_ground, AgreeOn, IsBelow, AreBelow, timeline-grown, timeline-ground}
 use Rattle.board_steps.proofs.GrammarLemmas.{RequestsOnly}
 use Rattle.board_steps.proofs.TimeLemmas.{all-mapped, IsGood, IsFiledBy, are-filed-later, timeline-legal, timeline-honest}
 use Rattle.board_steps.proofs.ValueLemmas.{request-grammatical}
@@ -61,7 +62,7 @@ time-left c event e some =
     let first : nat_lt 0 (length (planned c event)) ≡ true = grind (arith, nat_tests) in
     let last : nat_lt (greatest_tag c.tailoring + 1) (next_tag (prepared c event).clock c.moments + length (planned c event)) ≡ false =
     in-time (nat_lt 0 (length (planned c event))) (nat_lt (greatest_tag c.tailoring + 1) (next_tag (prepared c event).clock c.moments + length (planned c event)))
-        (is_closing event) (nat_lt (greatest_tag c.tailoring) (prepared c event).clock) e first in
+    (is_closing event) (nat_lt (greatest_tag c.tailoring) (prepared c event).clock) e first in
     grind (arith, nat_tests)
 
 -- the timeline of a core is good, and its requests are of octets
@@ -224,12 +225,15 @@ filing-next c x f k after time h =
       handling = tt;
       order = tt;
       outcome = tt;
-      sample = (f.param, record {
-        known = f.known;
-        fit = f.fit;
-        once = subst (λ n. AllByRecursion (λ e. IsFalse (is_filing x.param n e.act)) c.moments) (sym f.slot) (none-of c.moments f.once);
-        settable = λ set why. absurd (true_is_not_false (sym set ∙ f.sensed));
-      });
+      sample = (
+        f.param,
+        record {
+          known = f.known;
+          fit = f.fit;
+          once = subst (λ n. AllByRecursion (λ e. IsFalse (is_filing x.param n e.act)) c.moments) (sym f.slot) (none-of c.moments f.once);
+          settable = λ set why. absurd (true_is_not_false (sym set ∙ f.sensed));
+        },
+      );
       below = tt;
       filed = (omega (arith, f.slot), λ set. absurd (true_is_not_false (sym set ∙ ap (λ o. option_map_or is_settable o false) f.known ∙ f.sensed)));
     } in
@@ -313,7 +317,7 @@ step-steady before (Uplink packet) after fit only k made =
     let T : ℕ → Type 0 = λ n. (next_tag n before.moments + length (packet_plans before packet o) ≤ greatest_tag before.tailoring + 1) ⊎ (packet_plans before packet o ≡ []) in
     let r = uplink-next before packet o refl made.comes k after.moments (subst T (packet-clock before packet o) time) made.step.moments in
     let g : IsGood (session_by before.tailoring (with_packet before packet o).requests) before.slot_now after.moments =
-        subst (λ t. IsGood (session_by t (with_packet before packet o).requests) before.slot_now after.moments) (packet-tailoring before packet o) r.0 in
+    subst (λ t. IsGood (session_by t (with_packet before packet o).requests) before.slot_now after.moments) (packet-tailoring before packet o) r.0 in
     stands-from before.tailoring (with_packet before packet o).requests before.slot_now after made.step.tailoring made.step.requests made.step.slot_now g r.1
 step-steady before (Clock tag) after fit only k made =
     stands-from before.tailoring before.requests before.slot_now after made.step.tailoring made.step.requests made.step.slot_now
@@ -377,7 +381,7 @@ early-after c (Filing x) e h = h
 early-after c CloseSlot e h =
     let late : nat_lt (greatest_tag c.tailoring) (prepared c CloseSlot).clock ≡ false =
     right (nat_lt 0 (length (planned c CloseSlot)) && nat_lt (greatest_tag c.tailoring + 1) (next_tag (prepared c CloseSlot).clock c.moments + length (planned c CloseSlot)))
-        (nat_lt (greatest_tag c.tailoring) (prepared c CloseSlot).clock) e in
+    (nat_lt (greatest_tag c.tailoring) (prepared c CloseSlot).clock) e in
     let low : max c.clock (end_of_slot c) ≤ greatest_tag c.tailoring = ltb-false (greatest_tag c.tailoring) (max c.clock (end_of_slot c)) late in
     omega (arith, low)
   where
@@ -424,8 +428,12 @@ pub run-honest : (t : TailoringParts) (events : List Event) (c : Core) → IsFit
 run-honest t events c fit only h = timeline-honest (session c) c.moments (run-stands t events c fit only h).good.timeline
 
 -- so they are in a session with other packets under numbers that no moment names
-pub run-exchanged : (t : TailoringParts) (events : List Event) (c : Core) (other : List (List ℕ)) → IsFit t → RequestsOnly t → IsRun t events c → AgreeOn c.requests other c.moments
-    → IsLegal (exchanged (session c) other) c.moments × IsHonest (exchanged (session c) other) c.moments
-run-exchanged t events c other fit only h agree =
-    let both = timeline-agrees (session c) other c.moments agree (run-stands t events c fit only h).good.timeline in
-    (timeline-legal (exchanged (session c) other) c.moments both, timeline-honest (exchanged (session c) other) c.moments both)
+pub stands-ground : (c : Core) (known : Bool) (other : List (List ℕ)) → Stands c → AgreeOn c.requests other c.moments
+    → EachAfter (MayHappen (on_ground (session c) known other)) c.moments
+stands-ground c known other k agree = timeline-ground (session c) known other c.moments agree k.good.timeline
+
+pub run-ground : (t : TailoringParts) (events : List Event) (c : Core) (known : Bool) (other : List (List ℕ)) → IsFit t → RequestsOnly t → IsRun t events c
+    → AgreeOn c.requests other c.moments → IsLegal (on_ground (session c) known other) c.moments × IsHonest (on_ground (session c) known other) c.moments
+run-ground t events c known other fit only h agree =
+    let both = stands-ground c known other (run-stands t events c fit only h) agree in
+    (timeline-legal (on_ground (session c) known other) c.moments both, timeline-honest (on_ground (session c) known other) c.moments both)

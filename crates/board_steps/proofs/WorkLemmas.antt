@@ -254,8 +254,11 @@ one-act s slot moments g k known turn some (Some (Accepted j)) e =
     inr ((if is_barred s moments (instructions_at s k) then NotStarted k else Started k), refl, may-begin s slot moments g k known turn some j e (is_barred s moments (instructions_at s k)) refl)
 one-act s slot moments g k known turn some (Some (Started j)) e = inr (execution s moments k 1, refl, may-execute-first s slot moments g k known turn some j e)
 one-act s slot moments g k known turn some (Some (Executed j last flag)) e =
-    inr ((if last == length (instructions_at s k) then Completed k (refused_numbers k moments) else execution s moments k (last + 1)), refl,
-    may-go-on s slot moments g k known turn some j last flag e (last == length (instructions_at s k)) refl)
+    inr (
+      (if last == length (instructions_at s k) then Completed k (refused_numbers k moments) else execution s moments k (last + 1)),
+      refl,
+      may-go-on s slot moments g k known turn some j last flag e (last == length (instructions_at s k)) refl,
+    )
 one-act s slot moments g k known turn some (Some (TurnedAway j)) e = inl refl
 one-act s slot moments g k known turn some (Some (NotStarted j)) e = inl refl
 one-act s slot moments g k known turn some (Some (Completed j refused)) e = inl refl

@@ -1,5 +1,5 @@
 -- The events of a slot, one after the other: its uplinks in order, each followed by work until nothing waits, with filings anywhere among them, and its end last.
-use Rattle.std.specs.Prelude.{◌≡◌, ℕ, ◌<◌, ⊤, List, [], ◌∷◌, length, filter, filter_map, Bool, true, false, Option, Some, None}
+use Rattle.std.specs.Prelude.{◌≡◌, ◌≢◌, ℕ, ◌<◌, ⊤, List, [], ◌∷◌, length, filter, filter_map, Bool, true, false, Option, Some, None}
 use Rattle.std.specs.List.{range_with_len}
 use Rattle.hk_world.specs.Legal.{is_pending}
 use Rattle.hk_world.specs.Timelines.{last_act}
@@ -87,6 +87,7 @@ Refuses core event JournalFull = is_full core event ≡ true
 Refuses core event TimeExhausted = (is_full core event ≡ false) × (is_late core event ≡ true)
 Refuses core event Memory = ⊤
 
--- an event that may come next isn't made, for this reason
+-- an event that may come next isn't made, for this reason; there may be no memory at any moment
 abbrev pub IsStopped : Ahead → Core → BoardFault → Type 0
-IsStopped ahead core fault = (event : Event) × (next : Ahead) × Comes ahead core event next × IsEvent core event × Refuses core event fault
+IsStopped ahead core fault =
+    fault ≢ Memory → (event : Event) × (next : Ahead) × Comes ahead core event next × IsEvent core event × Refuses core event fault

@@ -1,5 +1,5 @@
 -- What holds of the timeline of each board: it is one that can have happened, and its numbers and slots are those that the board came to.
-use Rattle.std.specs.Prelude.{◌≡◌, ℕ, ◌*◌, ◌<◌, ◌≤◌, ⊤, List, length, slice_get, true, IfSome}
+use Rattle.std.specs.Prelude.{◌≡◌, ℕ, ◌*◌, ◌<◌, ◌≤◌, ⊤, List, length, slice_get, Bool, true, IfSome}
 use Rattle.std.specs.List.{AllByRecursion}
 use Rattle.hk_base.specs.Fit.{greatest_tag}
 use Rattle.hk_base.specs.TailoringParts.{TailoringParts}
@@ -43,9 +43,13 @@ pub record Stands (c : Core) : Type 0 where
   pub room : length c.moments ≤ 1048576
   pub early : c.slot_now * c.tailoring.widths.slot ≤ greatest_tag c.tailoring
 
+-- a session as the ground may have it: its start is known or not, and it has requests of its own
+abbrev pub on_ground : Session → Bool → List (List ℕ) → Session
+on_ground s known requests = record { protocol = s.protocol; known = known; long = s.long; initial = s.initial; requests = requests }
+
 -- a session with other requests
 abbrev pub exchanged : Session → List (List ℕ) → Session
-exchanged s other = record { protocol = s.protocol; known = s.known; long = s.long; initial = s.initial; requests = other }
+exchanged s other = on_ground s s.known other
 
 -- two lists of packets agree at the number that an act names
 abbrev pub Agrees : List (List ℕ) → List (List ℕ) → Act → Type 0

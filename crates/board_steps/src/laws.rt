@@ -1,17 +1,20 @@
 //! Laws of what boards do.
-ghost use Rattle.std.specs.Prelude.{◌≡◌, ◌<◌, ◌≤◌, ◌++◌, ℕ, List, length, reverse, is_some, true, false};
+ghost use Rattle.std.specs.Prelude.{◌≡◌, ◌<◌, ◌≤◌, ◌++◌, ℕ, List, length, reverse, is_some, Bool, true, false};
 ghost use Rattle.std.specs.List.{AllByRecursion};
 ghost use Rattle.hk_base.specs.TailoringParts.{TailoringParts};
 ghost use Rattle.hk_base.specs.Fit.{IsFit};
 ghost use Rattle.hk_base.specs.declared.types.Place.{Place};
+ghost use Rattle.hk_world.specs.Timelines.{EachAfter};
 ghost use Rattle.hk_world.specs.Legal.{IsLegal};
 ghost use Rattle.hk_world.specs.Honest.{IsHonest};
+ghost use Rattle.hk_world.specs.Worlds.{MayHappen};
 ghost use Rattle.hk_world.specs.declared.moment.Moment.{Moment};
 ghost use Rattle.board_steps.specs.Cores.{Core, session, new_core};
 ghost use Rattle.board_steps.specs.Slots.{has_sample, is_filed, is_set, sample_at};
 ghost use Rattle.board_steps.specs.Plans.{planned};
+ghost use Rattle.board_steps.specs.Steps.{IsStep};
 ghost use Rattle.board_steps.specs.Runs.{IsMade, IsRun};
-ghost use Rattle.board_steps.specs.Timeline.{Stands, AgreeOn, exchanged};
+ghost use Rattle.board_steps.specs.Timeline.{Stands, AgreeOn, on_ground};
 ghost use Rattle.board_steps.specs.SlotRuns.{filings, waiting};
 ghost use Rattle.board_steps.specs.Added.{Adds, IsJournal, filed_by, parameter_reports, reports_due};
 ghost use Rattle.board_steps.specs.declared.event.Event.{Event};
@@ -20,16 +23,19 @@ ghost use Rattle.board_steps.specs.declared.event.Sample.{Sample};
 
 use pus_messages::{reports_are_spelled, requests_are_spelled};
 
-/// What a board has done is a legal and honest timeline that begins with the state at boot. It is so too with other packets
-/// under numbers that no moment names, as where a request that was lost has one in the world and none on the board. A core
-/// that a board comes to stands, and so does one after each step from one that stands. The call is the law that it stands on.
+/// What a board has done is a legal and honest timeline that begins with the state at boot. It is so too in a session of the
+/// ground: there the start may be unknown, and numbers that no moment names may have other packets, as that of a request that
+/// was lost has one there and none on the board. A core that a board comes to stands, and so does one after each step from
+/// one that stands. The call is the law that it stands on.
 pub fn boards()
     ensures legal { (t : TailoringParts) (events : List Event) (c : Core) → IsFit t → IsRun t events c → IsLegal (session c) c.moments }
     ensures honest { (t : TailoringParts) (events : List Event) (c : Core) → IsFit t → IsRun t events c → IsHonest (session c) c.moments }
-    ensures exchanged_legal { (t : TailoringParts) (events : List Event) (c : Core) (other : List (List ℕ)) → IsFit t → IsRun t events c
-        → AgreeOn c.requests other c.moments → IsLegal (exchanged (session c) other) c.moments }
-    ensures exchanged_honest { (t : TailoringParts) (events : List Event) (c : Core) (other : List (List ℕ)) → IsFit t → IsRun t events c
-        → AgreeOn c.requests other c.moments → IsHonest (exchanged (session c) other) c.moments }
+    ensures ground_legal { (t : TailoringParts) (events : List Event) (c : Core) (known : Bool) (other : List (List ℕ)) → IsFit t → IsRun t events c
+        → AgreeOn c.requests other c.moments → IsLegal (on_ground (session c) known other) c.moments }
+    ensures ground_honest { (t : TailoringParts) (events : List Event) (c : Core) (known : Bool) (other : List (List ℕ)) → IsFit t → IsRun t events c
+        → AgreeOn c.requests other c.moments → IsHonest (on_ground (session c) known other) c.moments }
+    ensures ground { (c : Core) (known : Bool) (other : List (List ℕ)) → Stands c
+        → AgreeOn c.requests other c.moments → EachAfter (MayHappen (on_ground (session c) known other)) c.moments }
     ensures tailoring { (t : TailoringParts) (events : List Event) (c : Core) → IsRun t events c → c.tailoring ≡ t }
     ensures stands { (t : TailoringParts) (events : List Event) (c : Core) → IsFit t → IsRun t events c → Stands c }
     ensures begins { (t : TailoringParts) → Stands (new_core t) }
@@ -38,16 +44,16 @@ pub fn boards()
     requests_are_spelled();
 }
 
-/// What a step adds that was made: as many moments as were planned, with the samples of its event alone. A filing leaves the
+/// What a step adds: as many moments as were planned, with the samples of its event alone. A filing leaves the
 /// number of requests that wait, and work does something while one waits. No sample is of a slot after the one that runs, and
 /// a slot begins without any.
 pub fn steps()
-    ensures adds { (before : Core) (event : Event) (after : Core) → IsMade before event after → (new : List Moment) × Adds before event new after }
+    ensures adds { (before : Core) (event : Event) (after : Core) → IsStep before event after → (new : List Moment) × Adds before event new after }
     ensures settable { (c : Core) → IsFit c.tailoring → AllByRecursion (λ (x : Sample). is_set c.tailoring x.param ≡ true) (filed_by c CloseSlot) }
-    ensures waits { (before : Core) (x : Sample) (after : Core) → IsMade before (Filing x) after → waiting after ≡ waiting before }
+    ensures waits { (before : Core) (x : Sample) (after : Core) → IsStep before (Filing x) after → waiting after ≡ waiting before }
     ensures works { (c : Core) → 0 < waiting c → 0 < length (planned c Work) }
     ensures filed { (c : Core) → Stands c → AllByRecursion (λ (x : Sample). x.slot ≤ c.slot_now) (filings c.moments) }
-    ensures unfiled { (before : Core) (after : Core) → Stands before → IsMade before CloseSlot after → (id : ℕ) → is_filed after id ≡ false }
+    ensures unfiled { (before : Core) (after : Core) → Stands before → IsStep before CloseSlot after → (id : ℕ) → is_filed after id ≡ false }
 {}
 
 /// A board's journal can be written and carried: its moments, tags, numbers and packets are within their ranges. The calls
@@ -63,8 +69,8 @@ pub fn journals()
 /// The parameter reports among the moments that a step adds are those that are due, exactly. A place counts as sampled
 /// exactly where a sample of it stands among the moments once the slot has ended.
 pub fn reports_are_due()
-    ensures due { (before : Core) (event : Event) (after : Core) (new : List Moment) → IsMade before event after → after.moments ≡ reverse new ++ before.moments
+    ensures due { (before : Core) (event : Event) (after : Core) (new : List Moment) → IsStep before event after → after.moments ≡ reverse new ++ before.moments
         → parameter_reports (session before).protocol new ≡ reports_due before event }
-    ensures sampled { (before : Core) (after : Core) → IsFit before.tailoring → IsMade before CloseSlot after → (place : Place)
+    ensures sampled { (before : Core) (after : Core) → IsFit before.tailoring → IsStep before CloseSlot after → (place : Place)
         → has_sample before place ≡ is_some (sample_at place after.moments) }
 {}

@@ -1,4 +1,4 @@
-use Rattle.board_steps.proofs.RunLemmas.{run-legal, run-honest, run-exchanged, run-tailoring, run-stands, new-stands, step-stands}
+use Rattle.board_steps.proofs.RunLemmas.{run-legal, run-honest, run-ground, stands-ground, run-tailoring, run-stands, new-stands, step-stands}
 use Rattle.board_steps.proofs.laws.boards.Goals as goal
 
 pub returns-clause-legal : goal.returns-clause-legal
@@ -7,11 +7,16 @@ returns-clause-legal c t events core fit = run-legal t events core fit (c.reques
 pub returns-clause-honest : goal.returns-clause-honest
 returns-clause-honest c t events core fit = run-honest t events core fit (c.requests_are_spelled.ensures.only t)
 
-pub returns-clause-exchanged_legal : goal.returns-clause-exchanged_legal
-returns-clause-exchanged_legal c t events core other fit run agree = (run-exchanged t events core other fit (c.requests_are_spelled.ensures.only t) run agree).0
+pub returns-clause-ground_legal : goal.returns-clause-ground_legal
+returns-clause-ground_legal c t events core known other fit run agree =
+    (run-ground t events core known other fit (c.requests_are_spelled.ensures.only t) run agree).0
 
-pub returns-clause-exchanged_honest : goal.returns-clause-exchanged_honest
-returns-clause-exchanged_honest c t events core other fit run agree = (run-exchanged t events core other fit (c.requests_are_spelled.ensures.only t) run agree).1
+pub returns-clause-ground_honest : goal.returns-clause-ground_honest
+returns-clause-ground_honest c t events core known other fit run agree =
+    (run-ground t events core known other fit (c.requests_are_spelled.ensures.only t) run agree).1
+
+pub returns-clause-ground : goal.returns-clause-ground
+returns-clause-ground c core known other stands agree = stands-ground core known other stands agree
 
 pub returns-clause-tailoring : goal.returns-clause-tailoring
 returns-clause-tailoring c t events core run = run-tailoring t events core run

@@ -76,7 +76,7 @@ keep-more {X} n xs x =
     let all : k + (length (drop k (xs ++ x ∷ [])) - n) ≡ length (xs ++ x ∷ []) - n = omega (arith, len, left) in
     ap (λ ys. drop (length ys - n) ys) same ∙ drop-drop (length (drop k (xs ++ x ∷ [])) - n) k (xs ++ x ∷ []) ∙ ap (λ i. drop i (xs ++ x ∷ [])) all
 
-rising-pushed : (xs : List (ℕ × ℤ)) (x : ℕ × ℤ) → AreRising xs → AllByRecursion (λ (y : ℕ × ℤ). y.0 < x.0) xs → AreRising (xs ++ x ∷ [])
+pub rising-pushed : (xs : List (ℕ × ℤ)) (x : ℕ × ℤ) → AreRising xs → AllByRecursion (λ (y : ℕ × ℤ). y.0 < x.0) xs → AreRising (xs ++ x ∷ [])
 rising-pushed [] x rising before = (tt, tt)
 rising-pushed (a ∷ xs) x rising before = (above xs rising.0, rising-pushed xs x rising.1 before.1)
   where
@@ -88,20 +88,16 @@ rising-pushed (a ∷ xs) x rising before = (above xs rising.0, rising-pushed xs 
 pub are-before : (id slot : ℕ) (moments : List Moment) → AllByRecursion (λ m. IfSome (slot_filed id m.act) (λ x. x.0 < slot)) moments
     → AllByRecursion (λ (y : ℕ × ℤ). y.0 < slot) (filed_samples id moments)
 are-before id slot [] h = tt
-are-before id slot (m ∷ earlier) h = go (slot_filed id m.act) refl h.0
+are-before id slot (m ∷ earlier) h = go (slot_filed id m.act) refl h.0 (are-before id slot earlier h.1)
   where
-    P : ℕ × ℤ → Type 0
-    P y = y.0 < slot
-
     pushed : (xs : List (ℕ × ℤ)) (x : ℕ × ℤ) → AllByRecursion (λ (y : ℕ × ℤ). y.0 < slot) xs → x.0 < slot → AllByRecursion (λ (y : ℕ × ℤ). y.0 < slot) (xs ++ x ∷ [])
     pushed [] x a b = (b, tt)
     pushed (y ∷ ys) x a b = (a.0, pushed ys x a.1 b)
 
-    go : (o : Option (ℕ × ℤ)) → slot_filed id m.act ≡ o → IfSome o (λ x. x.0 < slot) → AllByRecursion (λ (y : ℕ × ℤ). y.0 < slot) (filed_samples id (m ∷ earlier))
-    go None e k = subst (AllByRecursion (λ (y : ℕ × ℤ). y.0 < slot)) (sym (samples-still id m earlier e)) (are-before id slot earlier h.1)
-    go (Some x) e k =
-        subst (AllByRecursion (λ (y : ℕ × ℤ). y.0 < slot)) (sym (samples-more id m earlier x e))
-        (pushed (filed_samples id earlier) x (are-before id slot earlier h.1) k)
+    go : (o : Option (ℕ × ℤ)) → slot_filed id m.act ≡ o → IfSome o (λ x. x.0 < slot) → AllByRecursion (λ (y : ℕ × ℤ). y.0 < slot) (filed_samples id earlier)
+        → AllByRecursion (λ (y : ℕ × ℤ). y.0 < slot) (filed_samples id (m ∷ earlier))
+    go None e k rest = subst (AllByRecursion (λ (y : ℕ × ℤ). y.0 < slot)) (sym (samples-still id m earlier e)) rest
+    go (Some x) e k rest = subst (AllByRecursion (λ (y : ℕ × ℤ). y.0 < slot)) (sym (samples-more id m earlier x e)) (pushed (filed_samples id earlier) x rest k)
 
 -- a moment that gives a parameter no value and no sample leaves what is held of it
 pub channel-still : (s : Session) (m : Moment) (earlier : List Moment) (id : ℕ) (c : Channel) → value_told s m id ≡ None → slot_filed id m.act ≡ None
@@ -132,7 +128,7 @@ abbrev pub IsNoFiling : Act → Type 0
 IsNoFiling (Filed id slot v) = ⊥
 IsNoFiling _ = ⊤
 
-filing-none : (id : ℕ) (act : Act) → IsNoFiling act → slot_filed id act ≡ None
+pub filing-none : (id : ℕ) (act : Act) → IsNoFiling act → slot_filed id act ≡ None
 filing-none id (Filed param slot v) h = absurd h
 filing-none id (Accepted k) h = refl
 filing-none id (TurnedAway k) h = refl
@@ -142,7 +138,7 @@ filing-none id (Executed k number flag) h = refl
 filing-none id (Completed k refused) h = refl
 filing-none id Emitted h = refl
 
-value-none : (id : ℕ) (act : Act) → IsNoFiling act → filed_value id act ≡ None
+pub value-none : (id : ℕ) (act : Act) → IsNoFiling act → filed_value id act ≡ None
 value-none id (Filed param slot v) h = absurd h
 value-none id (Accepted k) h = refl
 value-none id (TurnedAway k) h = refl

@@ -6,3 +6,6 @@ pub mod InstructionLemmas
 pub mod ChannelLemmas
 pub mod StatisticsLemmas
 pub mod ChangeLemmas
+pub mod SampleLemmas
+pub mod FilingLemmas
+pub mod HeldLemmas

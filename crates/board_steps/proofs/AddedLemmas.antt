@@ -144,7 +144,7 @@ planned-samples c CloseSlot =
     ∙ ap₂ (λ xs ys. xs ++ ys) (own-filed c (settables c.tailoring)) (topics-unfiled topics) ∙ append-nil (map (own_sample c) (settables c.tailoring))
 
 -- lists that are filtered by tests that agree
-filter-same : {X : Type 0} (f g : X → Bool) → ((x : X) → f x ≡ g x) → (xs : List X) → filter f xs ≡ filter g xs
+pub filter-same : {X : Type 0} (f g : X → Bool) → ((x : X) → f x ≡ g x) → (xs : List X) → filter f xs ≡ filter g xs
 filter-same f g same [] = refl
 filter-same f g same (x ∷ xs) = ap₂ (λ b ys. cond b (x ∷ ys) ys) (same x) (filter-same f g same xs)
 

@@ -9,3 +9,4 @@ pub mod RunLemmas
 pub mod AddedLemmas
 pub mod ReportLemmas
 pub mod JournalLemmas
+pub mod SlotLemmas

@@ -1,7 +1,7 @@
 -- The parameter reports that a step adds are those that are due.
 use Rattle.std.proofs.Common.{arith, ◌≡◌, ℕ, zero, suc, ◌+◌, ◌-◌, ◌*◌, ◌<◌, ◌≤◌, max, refl, sym, ◌∙◌, ap, ap₂, subst, List, [], ◌∷◌, ◌++◌, length, reverse, map, take, cond, Bool, true, false, ◌==◌, ◌&&◌, ◌||◌, Option, Some, None, filter, ◌⊎◌, inl, inr}
 use Rattle.std.specs.Prelude.{⊤, ℤ, pos, MatchBool, is_some, nat_lt, find, filter_map, option_map, unwrap_or, if◌then◌else◌}
-use Rattle.std.specs.List.{AllByRecursion, list_any, cons_option}
+use Rattle.std.specs.List.{AllByRecursion, list_all, list_any, cons_option}
 use Rattle.std.specs.Option.{option_or, option_map_or}
 use Rattle.std.proofs.lemmas.Bool.Decides.{Decides-eqb, nat_tests}
 use Rattle.std.proofs.lemmas.List.{reverse-reverse, append_cancel_right}
@@ -9,6 +9,8 @@ use Rattle.std.proofs.lemmas.List.Folds.{list_any-append}
 use Rattle.hk_base.specs.Fit.{IsFit}
 use Rattle.hk_base.specs.TailoringParts.{TailoringParts}
 use Rattle.hk_base.specs.Parameters.{parameter, is_settable}
+use Rattle.hk_base.specs.Payload.{places}
+use Rattle.hk_base.specs.declared.types.Definition.{Definition}
 use Rattle.hk_base.specs.declared.types.Key.{Key}
 use Rattle.hk_base.specs.declared.types.Param.{Param}
 use Rattle.hk_base.specs.declared.types.Place.{Place}
@@ -35,7 +37,7 @@ use Rattle.hk_world.specs.declared.moment.Act.{Act}
 use Rattle.hk_world.specs.declared.moment.Act.TheVariants.{Accepted, TurnedAway, Started, NotStarted, Executed, Completed, Emitted, Filed}
 use Rattle.hk_world.proofs.OrderLemmas.{true_is_not_false}
 use Rattle.board_steps.specs.Cores.{Core, session, state_of, next_tag}
-use Rattle.board_steps.specs.Slots.{filed_at, sample_at, is_set, has_sample}
+use Rattle.board_steps.specs.Slots.{filed_at, sample_at, is_set, has_sample, is_complete}
 use Rattle.board_steps.specs.Plans.{Topic, samples_of, structure_of, properties_of, statistics, definitions, values_of, Plan, does, tells, handled_as, handling, prepared, worked_request, worked_acts, worked_done, topics_of, settables, own_filing, every_key, is_reported, due_topics, tags_left, planned}
 use Rattle.board_steps.specs.Slots.{is_statistics_due}
 use Rattle.board_steps.specs.Steps.{IsAbout, IsNext, AreNext, IsStep}
@@ -393,3 +395,14 @@ step-told before event after new step e =
     let told = step-told-in p.tailoring p.requests before event p.clock parts.new refl parts.added in
     subst (λ ms. parameter_reports (protocol before.tailoring) ms ≡ reports_due before event) same
     (subst (λ t. parameter_reports (protocol t) parts.new ≡ reports_due before event) (prepared-tailoring before event) told)
+
+-- tests that agree answer alike of all members
+list_all-same : {X : Type 0} (f g : X → Bool) → ((x : X) → f x ≡ g x) → (xs : List X) → list_all f xs ≡ list_all g xs
+list_all-same f g same [] = refl
+list_all-same f g same (x ∷ xs) = ap₂ (λ a b. a && b) (same x) (list_all-same f g same xs)
+
+-- a definition counts as complete where all its places have samples once the slot has ended
+pub all-sampled : (before after : Core) → IsFit before.tailoring → IsStep before CloseSlot after → (d : Definition)
+    → is_complete before d ≡ list_all (λ place. is_some (sample_at place after.moments)) (places d before.slot_now)
+all-sampled before after fit step d =
+    list_all-same (has_sample before) (λ place. is_some (sample_at place after.moments)) (place-sampled before after fit step) (places d before.slot_now)

@@ -1,8 +1,10 @@
 //! Laws of what boards do.
-ghost use Rattle.std.specs.Prelude.{◌≡◌, ◌<◌, ◌≤◌, ◌++◌, ℕ, List, length, reverse, is_some, Bool, true, false};
-ghost use Rattle.std.specs.List.{AllByRecursion};
+ghost use Rattle.std.specs.Prelude.{◌≡◌, ◌+◌, ◌<◌, ◌≤◌, ◌++◌, ℕ, List, length, reverse, is_some, Bool, true, false};
+ghost use Rattle.std.specs.List.{AllByRecursion, list_all};
 ghost use Rattle.hk_base.specs.TailoringParts.{TailoringParts};
 ghost use Rattle.hk_base.specs.Fit.{IsFit};
+ghost use Rattle.hk_base.specs.Payload.{places};
+ghost use Rattle.hk_base.specs.declared.types.Definition.{Definition};
 ghost use Rattle.hk_base.specs.declared.types.Place.{Place};
 ghost use Rattle.hk_world.specs.Timelines.{EachAfter};
 ghost use Rattle.hk_world.specs.Legal.{IsLegal};
@@ -10,12 +12,12 @@ ghost use Rattle.hk_world.specs.Honest.{IsHonest};
 ghost use Rattle.hk_world.specs.Worlds.{MayHappen};
 ghost use Rattle.hk_world.specs.declared.moment.Moment.{Moment};
 ghost use Rattle.board_steps.specs.Cores.{Core, session, new_core};
-ghost use Rattle.board_steps.specs.Slots.{has_sample, is_filed, is_set, sample_at};
+ghost use Rattle.board_steps.specs.Slots.{has_sample, is_complete, is_filed, is_set, sample_at};
 ghost use Rattle.board_steps.specs.Plans.{planned};
 ghost use Rattle.board_steps.specs.Steps.{IsStep};
 ghost use Rattle.board_steps.specs.Runs.{IsMade, IsRun};
 ghost use Rattle.board_steps.specs.Timeline.{Stands, AgreeOn, on_ground};
-ghost use Rattle.board_steps.specs.SlotRuns.{filings, waiting};
+ghost use Rattle.board_steps.specs.SlotRuns.{Ahead, IsPart, IsSlot, Leads, filings, waiting};
 ghost use Rattle.board_steps.specs.Added.{Adds, IsJournal, filed_by, parameter_reports, reports_due};
 ghost use Rattle.board_steps.specs.declared.event.Event.{Event};
 ghost use Rattle.board_steps.specs.declared.event.Event.TheVariants.{CloseSlot, Filing, Work};
@@ -44,13 +46,14 @@ pub fn boards()
     requests_are_spelled();
 }
 
-/// What a step adds: as many moments as were planned, with the samples of its event alone. A filing leaves the
-/// number of requests that wait, and work does something while one waits. No sample is of a slot after the one that runs, and
+/// What a step adds: as many moments as were planned, with the samples of its event alone. A filing and the end of a slot
+/// leave the number of requests that wait, and work does something while one waits. No sample is of a slot after the one that runs, and
 /// a slot begins without any.
 pub fn steps()
     ensures adds { (before : Core) (event : Event) (after : Core) → IsStep before event after → (new : List Moment) × Adds before event new after }
     ensures settable { (c : Core) → IsFit c.tailoring → AllByRecursion (λ (x : Sample). is_set c.tailoring x.param ≡ true) (filed_by c CloseSlot) }
     ensures waits { (before : Core) (x : Sample) (after : Core) → IsStep before (Filing x) after → waiting after ≡ waiting before }
+    ensures closes { (before : Core) (after : Core) → IsStep before CloseSlot after → waiting after ≡ waiting before }
     ensures works { (c : Core) → 0 < waiting c → 0 < length (planned c Work) }
     ensures filed { (c : Core) → Stands c → AllByRecursion (λ (x : Sample). x.slot ≤ c.slot_now) (filings c.moments) }
     ensures unfiled { (before : Core) (after : Core) → Stands before → IsStep before CloseSlot after → (id : ℕ) → is_filed after id ≡ false }
@@ -67,10 +70,23 @@ pub fn journals()
 }
 
 /// The parameter reports among the moments that a step adds are those that are due, exactly. A place counts as sampled
-/// exactly where a sample of it stands among the moments once the slot has ended.
+/// exactly where a sample of it stands among the moments once the slot has ended, and a definition as complete where all its
+/// places do.
 pub fn reports_are_due()
     ensures due { (before : Core) (event : Event) (after : Core) (new : List Moment) → IsStep before event after → after.moments ≡ reverse new ++ before.moments
         → parameter_reports (session before).protocol new ≡ reports_due before event }
     ensures sampled { (before : Core) (after : Core) → IsFit before.tailoring → IsStep before CloseSlot after → (place : Place)
         → has_sample before place ≡ is_some (sample_at place after.moments) }
+    ensures complete { (before : Core) (after : Core) → IsFit before.tailoring → IsStep before CloseSlot after → (d : Definition)
+        → is_complete before d ≡ list_all (λ place. is_some (sample_at place after.moments)) (places d before.slot_now) }
+{}
+
+/// The events of a slot go on with a run. Whole, they end the slot that runs, and nothing waits then where nothing did before.
+pub fn slots()
+    ensures runs { (t : TailoringParts) (earlier : List Event) (ahead : Ahead) (next : Ahead) (before : Core) (after : Core) (events : List Event)
+        → IsRun t earlier before → Leads ahead before events next after → IsRun t (reverse events ++ earlier) after }
+    ensures same { (uplinks : List (List ℕ)) (ahead : Ahead) (before : Core) (after : Core) → IsPart uplinks before ahead after
+        → ahead.is_open ≡ true → after.slot_now ≡ before.slot_now }
+    ensures next { (uplinks : List (List ℕ)) (before : Core) (after : Core) → IsSlot uplinks before after → after.slot_now ≡ before.slot_now + 1 }
+    ensures idle { (uplinks : List (List ℕ)) (before : Core) (after : Core) → IsSlot uplinks before after → waiting before ≡ 0 → waiting after ≡ 0 }
 {}

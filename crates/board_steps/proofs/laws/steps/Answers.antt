@@ -1,4 +1,5 @@
 use Rattle.board_steps.proofs.AddedLemmas.{step-adds, closing-settable, waits-same, works-on, stands-up-to, begins-unfiled}
+use Rattle.board_steps.proofs.SlotLemmas.{closes-same}
 use Rattle.board_steps.proofs.laws.steps.Goals as goal
 
 pub returns-clause-adds : goal.returns-clause-adds
@@ -18,3 +19,6 @@ returns-clause-filed c core stands = stands-up-to core stands
 
 pub returns-clause-unfiled : goal.returns-clause-unfiled
 returns-clause-unfiled c before after stands made id = begins-unfiled before after stands made id
+
+pub returns-clause-closes : goal.returns-clause-closes
+returns-clause-closes c before after step = closes-same before after step

@@ -4,6 +4,9 @@ pub mod KeyLemmas
 pub mod EffectLemmas
 pub mod InstructionLemmas
 pub mod ChannelLemmas
+pub mod HalfLemmas
+pub mod RowLemmas
+pub mod MemberLemmas
 pub mod StatisticsLemmas
 pub mod ChangeLemmas
 pub mod SampleLemmas

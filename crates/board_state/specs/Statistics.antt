@@ -1,9 +1,10 @@
 -- What a board holds of its statistics: what the moments say.
-use Rattle.std.specs.Prelude.{◌≡◌, ℕ, ◌*◌, ◌^◌, ◌<◌, ◌++◌, ◌∷◌, List, [], map, filter, Bool, false, ◌==◌, nat_lt, Option, Some, None, MatchBool}
-use Rattle.std.specs.List.{AllByRecursion, AllZip}
+use Rattle.std.specs.Prelude.{◌≡◌, ℕ, ◌*◌, ◌^◌, ◌<◌, ◌++◌, ◌∷◌, List, [], map, filter, Bool, true, false, not, ◌==◌, nat_lt, Option, Some, None, MatchBool}
+use Rattle.std.specs.List.{AllByRecursion, AllZip, list_any}
 use Rattle.hk_base.specs.TailoringParts.{TailoringParts}
 use Rattle.body_fields.specs.Spelling.{IsInterval}
 use Rattle.statistics.specs.Summaries.{Sample, Totals, AreTotals, IsSummary}
+use Rattle.st04_grammar.specs.Instructions.{StatisticsChange, report, reset, enable, disable, add, delete, delete_all, show_definitions}
 use Rattle.st04_grammar.specs.Spelling.{AreNumericIds}
 use Rattle.st04_grammar.specs.declared.bodies.StatRow.{StatRow}
 use Rattle.st04_grammar.specs.declared.bodies.StatReport.{StatReport}
@@ -100,3 +101,33 @@ pub record IsReportOf (t : TailoringParts) (x : StatisticsHeld) (tag : ℕ) (r :
   pub start : r.start ≡ x.start
   pub end : r.end ≡ tag
   pub rows : AreRowsOf t x.members r.rows
+
+-- the members are others
+abbrev pub with_members : StatisticsHeld → List Member → StatisticsHeld
+with_members x members = record x { members = members }
+
+-- one more sample of a parameter
+abbrev pub Files : ℕ → Sample → StatisticsHeld → StatisticsHeld → Type 0
+Files id x old new = AllZip (CountsAt id x) old.members new.members × (new ≡ with_members old new.members)
+
+-- a parameter stands last, or stays where it is, and has no samples
+pub record Adds (id : ℕ) (old new : StatisticsHeld) : Type 0 where
+  pub there : list_any (λ m. m.param == id) old.members ≡ true → AllZip (RestartsAt id) old.members new.members
+  pub absent : list_any (λ m. m.param == id) old.members ≡ false → (m : Member) × IsEmpty id m × (new.members ≡ old.members ++ m ∷ [])
+  pub rest : new ≡ with_members old new.members
+
+-- all samples are forgotten, and the statistics start from this tag
+abbrev pub Resets : ℕ → StatisticsHeld → StatisticsHeld → Type 0
+Resets tag old new = AllZip (λ x y. IsEmpty x.param y) old.members new.members × (new ≡ record old { members = new.members; start = tag })
+
+-- what a change leaves: the last of its moments has this tag, and this is the slot after that of the first
+abbrev pub Changes : StatisticsChange → ℕ → ℕ → StatisticsHeld → StatisticsHeld → Type 0
+Changes (report true) tag slot old new = Resets tag old new
+Changes (report false) tag slot old new = new ≡ old
+Changes reset tag slot old new = Resets tag old new
+Changes (enable n) tag slot old new = new ≡ record old { enabled = true; interval = n; first_slot = slot }
+Changes disable tag slot old new = new ≡ record old { enabled = false }
+Changes (add id) tag slot old new = Adds id old new
+Changes (delete id) tag slot old new = new ≡ with_members old (filter (λ m. not (m.param == id)) old.members)
+Changes delete_all tag slot old new = new ≡ with_members old []
+Changes show_definitions tag slot old new = new ≡ old

@@ -3,7 +3,7 @@ ghost use Rattle.std.specs.Prelude.{◌≡◌, ◌≤◌, ◌<◌, ◌^◌, ◌&
 ghost use Rattle.std.specs.List.{All, AllZip, list_any};
 ghost use Rattle.statistics.specs.Summaries.{sample, IsSampleValue};
 ghost use Rattle.board_steps.specs.Slots as slots;
-ghost use Rattle.board_state.specs.Statistics.{params_of, IsEmpty, RestartsAt, CountsAt, IsTimely, IsRowIfAny, AreRowsOf, IsReportOf};
+ghost use Rattle.board_state.specs.Statistics.{params_of, with_members, IsEmpty, RestartsAt, CountsAt, Files, Adds, Resets, IsTimely, IsRowIfAny, AreRowsOf, IsReportOf};
 
 use crate::structures::ends_interval;
 use hk_base::{Items, Memory, Tailoring, Value};
@@ -109,7 +109,7 @@ impl Members {
 
     /// The parameters, in order.
     pub fn params(&self, alloc: Global) -> Result<Items<u32>, Memory>
-        ensures { IfOk result (λ ids. ids.now ≡ params_of self.now.members) }
+        ensures { IfOk result (λ ids. ids ≡ params_of self.now.members) }
     {
         Ok(Items::from_vec(ids_of(alloc, &self.members)?))
     }
@@ -118,17 +118,14 @@ impl Members {
     pub fn file(&mut self, param: u32, slot: u64, value: Value)
         requires value { IsSampleValue value }
         requires room { All (λ m. m.stat.count < 4294967295) self.old.members }
-        ensures members { AllZip (CountsAt param (sample slot value)) self.old.members self.new.members }
-        ensures rest { self.new ≡ record self.old { members = self.new.members } }
+        ensures { Files param (sample slot value) self.old self.new }
     {
         file_in(&mut self.members, param, slot, value);
     }
 
     /// Puts a parameter last, or leaves it where it is, with no samples.
     pub fn add(&mut self, param: u32) -> Result<(), Memory>
-        ensures there { list_any (λ m. m.param == param) self.old.members ≡ true → OnOk result (AllZip (RestartsAt param) self.old.members self.new.members) }
-        ensures new { list_any (λ m. m.param == param) self.old.members ≡ false → OnOk result ((m : Member) × IsEmpty param m × (self.new.members ≡ self.old.members ++ m ∷ [])) }
-        ensures rest { self.new ≡ record self.old { members = self.new.members } }
+        ensures { OnOk result (Adds param self.old self.new) }
     {
         if self.has(param) {
             restart_at(&mut self.members, param);
@@ -140,13 +137,13 @@ impl Members {
     }
 
     pub fn delete(&mut self, param: u32)
-        ensures { self.new ≡ record self.old { members = filter (λ m. not (m.param == param)) self.old.members } }
+        ensures { self.new ≡ with_members self.old (filter (λ m. not (m.param == param)) self.old.members) }
     {
         remove(&mut self.members, param);
     }
 
     pub fn delete_all(&mut self)
-        ensures { self.new ≡ record self.old { members = [] } }
+        ensures { self.new ≡ with_members self.old [] }
     {
         self.members.clear();
     }
@@ -168,8 +165,7 @@ impl Members {
 
     /// Forgets all samples. The statistics start from this tag.
     pub fn reset(&mut self, tag: u64)
-        ensures members { AllZip (λ old new. IsEmpty old.param new) self.old.members self.new.members }
-        ensures rest { self.new ≡ record self.old { members = self.new.members; start = tag } }
+        ensures { Resets tag self.old self.new }
     {
         restart_all(&mut self.members);
         self.start = tag;

@@ -38,7 +38,7 @@ slot-is tag slot width some low high =
     omega (arith, a, b)
 
 -- so many slots are a whole number of intervals, so there are as many as an interval has
-whole : (d n : ℕ) → 1 ≤ d → d % n ≡ 0 → n ≤ d
+pub whole : (d n : ℕ) → 1 ≤ d → d % n ≡ 0 → n ≤ d
 whole d n some e = go (cases_lt d n)
   where
     go : (d < n) ⊎ (n ≤ d) → n ≤ d
@@ -46,7 +46,7 @@ whole d n some e = go (cases_lt d n)
     go (inr le) = le
 
 -- an interval that ends with a slot has as many slots as there are up to it, or fewer
-interval-due : (c : Core) (key : Key) (x : Structure) → is_due c key x ≡ true → x.def.interval ≤ c.slot_now + 1
+pub interval-due : (c : Core) (key : Key) (x : Structure) → is_due c key x ≡ true → x.def.interval ≤ c.slot_now + 1
 interval-due c key x e = go (or_cases (x.enabled && ends_interval (first_slot c key) x.def.interval c.slot_now) (is_spent c key x) e)
   where
     spent : (o : Option ℕ) → option_map_or (λ first. first + x.def.interval == c.slot_now + 1) o false ≡ true → x.def.interval ≤ c.slot_now + 1

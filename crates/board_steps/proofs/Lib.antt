@@ -10,3 +10,4 @@ pub mod AddedLemmas
 pub mod ReportLemmas
 pub mod JournalLemmas
 pub mod SlotLemmas
+pub mod IntervalLemmas

@@ -1,18 +1,20 @@
 //! Laws of what boards do.
-ghost use Rattle.std.specs.Prelude.{◌≡◌, ◌+◌, ◌<◌, ◌≤◌, ◌++◌, ℕ, List, length, reverse, is_some, Bool, true, false};
+ghost use Rattle.std.specs.Prelude.{◌≡◌, ◌+◌, ◌-◌, ◌*◌, ◌<◌, ◌≤◌, ◌++◌, ℕ, List, length, reverse, is_some, Bool, Some, true, false};
 ghost use Rattle.std.specs.List.{AllByRecursion, list_all};
 ghost use Rattle.hk_base.specs.TailoringParts.{TailoringParts};
 ghost use Rattle.hk_base.specs.Fit.{IsFit};
 ghost use Rattle.hk_base.specs.Payload.{places};
 ghost use Rattle.hk_base.specs.declared.types.Definition.{Definition};
+ghost use Rattle.hk_base.specs.declared.types.Key.{Key};
 ghost use Rattle.hk_base.specs.declared.types.Place.{Place};
-ghost use Rattle.hk_world.specs.Timelines.{EachAfter};
+ghost use Rattle.hk_base.specs.declared.types.Structure.{Structure};
+ghost use Rattle.hk_world.specs.Timelines.{EachAfter, state_at};
 ghost use Rattle.hk_world.specs.Legal.{IsLegal};
 ghost use Rattle.hk_world.specs.Honest.{IsHonest};
 ghost use Rattle.hk_world.specs.Worlds.{MayHappen};
 ghost use Rattle.hk_world.specs.declared.moment.Moment.{Moment};
-ghost use Rattle.board_steps.specs.Cores.{Core, session, new_core};
-ghost use Rattle.board_steps.specs.Slots.{has_sample, is_complete, is_filed, is_set, sample_at};
+ghost use Rattle.board_steps.specs.Cores.{Core, session, state_of, new_core};
+ghost use Rattle.board_steps.specs.Slots.{has_sample, is_complete, is_due, is_spent, is_filed, is_set, sample_at};
 ghost use Rattle.board_steps.specs.Plans.{planned};
 ghost use Rattle.board_steps.specs.Steps.{IsStep};
 ghost use Rattle.board_steps.specs.Runs.{IsMade, IsRun};
@@ -89,4 +91,14 @@ pub fn slots()
         → ahead.is_open ≡ true → after.slot_now ≡ before.slot_now }
     ensures next { (uplinks : List (List ℕ)) (before : Core) (after : Core) → IsSlot uplinks before after → after.slot_now ≡ before.slot_now + 1 }
     ensures idle { (uplinks : List (List ℕ)) (before : Core) (after : Core) → IsSlot uplinks before after → waiting before ≡ 0 → waiting after ≡ 0 }
+{}
+
+/// A structure that is due because an interval of it ends was what it is now at each tag since that interval began: a change
+/// begins its intervals anew with the slot after. So a report that isn't a one-shot's has one definition from its first slot
+/// on. A structure that is due, by a one-shot too, has as many slots up to now as an interval has.
+pub fn intervals()
+    ensures whole { (c : Core) → IsFit c.tailoring → Stands c → (key : Key) (x : Structure) → (state_of c).structure key ≡ Some x
+        → is_due c key x ≡ true → is_spent c key x ≡ false → (tag : ℕ) → (c.slot_now + 1 - x.def.interval) * c.tailoring.widths.slot ≤ tag
+        → (state_at (session c) c.moments tag).structure key ≡ Some x }
+    ensures long { (c : Core) (key : Key) (x : Structure) → is_due c key x ≡ true → x.def.interval ≤ c.slot_now + 1 }
 {}

@@ -1,0 +1,9 @@
+use Rattle.board_steps.proofs.ClosingLemmas.{interval-due}
+use Rattle.board_steps.proofs.IntervalLemmas.{whole-interval}
+use Rattle.board_steps.proofs.laws.intervals.Goals as goal
+
+pub returns-clause-whole : goal.returns-clause-whole
+returns-clause-whole c core fit stands key x there due spent tag since = whole-interval core fit stands key x there due spent tag since
+
+pub returns-clause-long : goal.returns-clause-long
+returns-clause-long c core key x due = interval-due core key x due

@@ -1,6 +1,6 @@
 -- What is held of a structure after a change of it that is done.
 use Rattle.std.proofs.Common.{◌≡◌, ℕ, refl, sym, ◌∙◌, ap, ap₂, subst, List, [], ◌∷◌, ◌+◌, ◌<◌, ◌^◌, Bool, true, false, Option, Some, None}
-use Rattle.std.specs.Prelude.{cond, IfSome, ◌&&◌, ◌==◌, option_map, unwrap_or, if◌then◌else◌}
+use Rattle.std.specs.Prelude.{cond, IfSome, ◌&&◌, ◌==◌, option_map, if◌then◌else◌}
 use Rattle.std.specs.Map.{lookup, set_value}
 use Rattle.std.proofs.lemmas.Bool.{eq-eqb}
 use Rattle.std.proofs.lemmas.Option.{none-some, same_Some}
@@ -85,37 +85,29 @@ module _ (t : TailoringParts) (done : List Done) (d : Done) (key : Key) where
   begins-own change b e q = ap (begins_intervals_of key) e ∙ ap₂ (λ x y. x && y) (key-own key) q
 
   -- another structure in the place of one
-  pub replaced : (change : StructureChange) (x : Structure) (was : Held) → d.instruction ≡ on_structure key change → IsValid t x.def → slot_of t d.tag + 1 < 2 ^ 60 → IsHeld t done key was
+  pub replaced : (change : StructureChange) (x : Structure) (was : Held) → d.instruction ≡ on_structure key change → IsValid t x.def → IsHeld t done key was
       → Becomes t (d ∷ done) key (Some x) (Some (with_structure x (if begins_intervals change then Some (slot_of t d.tag + 1) else None) was))
-  replaced change x was e valid early h = go (begins_intervals change) refl
+  replaced change x was e valid h = go (begins_intervals change) refl
     where
-      begun : (o : Option ℕ) → IfSome (option_map (λ _. slot_of t d.tag + 1) o) (λ first. first < 2 ^ 60)
-      begun None = tt
-      begun (Some first) = early
-
       go : (b : Bool) → begins_intervals change ≡ b → Becomes t (d ∷ done) key (Some x) (Some (with_structure x (if b then Some (slot_of t d.tag + 1) else None) was))
-      go true q = record { structure = refl; held = record { valid = valid; id = h.id; first = sym (slot-begins t (begins_intervals_of key) done d (begins-own change true e q)); small = begun was.one_shot } }
-      go false q = record { structure = refl; held = record { valid = valid; id = h.id; first = h.first ∙ sym (slot-stays t (begins_intervals_of key) done d (begins-own change false e q)); small = h.small } }
+      go true q = record { structure = refl; held = record { valid = valid; id = h.id; first = sym (slot-begins t (begins_intervals_of key) done d (begins-own change true e q)) } }
+      go false q = record { structure = refl; held = record { valid = valid; id = h.id; first = h.first ∙ sym (slot-stays t (begins_intervals_of key) done d (begins-own change false e q)) } }
 
   -- a one-shot is ordered
-  pub ordered : (slot : ℕ) (was : Held) → d.instruction ≡ on_structure key (plain OneShot) → slot < 2 ^ 60 → IsHeld t done key was → Becomes t (d ∷ done) key (Some was.structure) (Some (with_one_shot slot was))
-  ordered slot was e early h =
-      record { structure = refl; held = record { valid = h.valid; id = h.id; first = h.first ∙ sym (slot-stays t (begins_intervals_of key) done d (begins-own (plain OneShot) false e refl)); small = one was.one_shot h.small } }
-    where
-      one : (o : Option ℕ) → IfSome o (λ first. first < 2 ^ 60) → unwrap_or o slot < 2 ^ 60
-      one None k = early
-      one (Some first) k = k
+  pub ordered : (slot : ℕ) (was : Held) → d.instruction ≡ on_structure key (plain OneShot) → IsHeld t done key was → Becomes t (d ∷ done) key (Some was.structure) (Some (with_one_shot slot was))
+  ordered slot was e h =
+      record { structure = refl; held = record { valid = h.valid; id = h.id; first = h.first ∙ sym (slot-stays t (begins_intervals_of key) done d (begins-own (plain OneShot) false e refl)) } }
 
   -- a new structure
   pub created : (def : Definition) (x : Structure) → d.instruction ≡ on_structure key (create def) → IsValid t x.def → key.id < 256 ^ t.widths.structure_octets
       → Becomes t (d ∷ done) key (Some x) (Some (new_held x (slot_of t d.tag + 1)))
   created def x e valid id =
-      record { structure = refl; held = record { valid = valid; id = id; first = sym (slot-begins t (begins_intervals_of key) done d (begins-own (create def) true e refl)); small = tt } }
+      record { structure = refl; held = record { valid = valid; id = id; first = sym (slot-begins t (begins_intervals_of key) done d (begins-own (create def) true e refl)) } }
 
   -- nothing of the structure is changed
   pub unchanged : (change : StructureChange) (was : Held) → d.instruction ≡ on_structure key change → begins_intervals change ≡ false → IsHeld t done key was → Becomes t (d ∷ done) key (Some was.structure) (Some was)
   unchanged change was e q h =
-      record { structure = refl; held = record { valid = h.valid; id = h.id; first = h.first ∙ sym (slot-stays t (begins_intervals_of key) done d (begins-own change false e q)); small = h.small } }
+      record { structure = refl; held = record { valid = h.valid; id = h.id; first = h.first ∙ sym (slot-stays t (begins_intervals_of key) done d (begins-own change false e q)) } }
 
   -- none is left
   pub deleted : Becomes t (d ∷ done) key None None

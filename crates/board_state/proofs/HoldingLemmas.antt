@@ -75,7 +75,7 @@ other-done t done d held other h =
     each : (key : Key) (o : Option Held) → IfSome o (IsHeld t done key) → IfSome o (IsHeld t (d ∷ done) key)
     each key None k = tt
     each key (Some x) k =
-        record { valid = k.valid; id = k.id; first = k.first ∙ sym (slot-stays t (begins_intervals_of key) done d (begins key d.instruction other)); small = k.small }
+        record { valid = k.valid; id = k.id; first = k.first ∙ sym (slot-stays t (begins_intervals_of key) done d (begins key d.instruction other)) }
 
 -- what is held under its key after a change that is done: the structure that it leaves, with its first slot
 pub record Becomes (t : TailoringParts) (done : List Done) (key : Key) (state : Option Structure) (to : Option Held) : Type 0 where
@@ -117,5 +117,4 @@ structure-done t done d key change state to old new e f becomes changes rising h
               valid = k.valid;
               id = k.id;
               first = k.first ∙ sym (slot-stays t (begins_intervals_of other) done d (ap (begins_intervals_of other) e ∙ ap (λ b. b && begins_intervals change) q));
-              small = k.small;
             }

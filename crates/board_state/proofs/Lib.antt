@@ -1,5 +1,7 @@
 pub mod WaitingLemmas
 pub mod HoldingLemmas
+pub mod RisingLemmas
+pub mod BootLemmas
 pub mod KeyLemmas
 pub mod EffectLemmas
 pub mod InstructionLemmas

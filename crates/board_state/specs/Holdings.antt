@@ -1,5 +1,5 @@
 -- What a board holds of its structures: what the instructions that were done leave.
-use Rattle.std.specs.Prelude.{◌≡◌, ◌^◌, ◌+◌, ◌==◌, ◌<◌, ⊤, ℕ, List, [], ◌∷◌, map, filter, filter_map, Bool, true, false, ◌&&◌, ◌||◌, nat_lt, Option, Some, None, IfSome, unwrap_or, option_map, if◌then◌else◌}
+use Rattle.std.specs.Prelude.{◌≡◌, ◌^◌, ◌+◌, ◌==◌, ◌<◌, ⊤, ℕ, List, [], ◌∷◌, map, filter, filter_map, Bool, true, false, ◌&&◌, ◌||◌, nat_lt, find, Option, Some, None, IfSome, unwrap_or, option_map, if◌then◌else◌}
 use Rattle.std.specs.List.{AllByRecursion}
 use Rattle.std.specs.Option.{option_map_or}
 use Rattle.std.specs.Map.{lookup, set_value}
@@ -8,6 +8,7 @@ use Rattle.hk_base.specs.declared.types.Kind.{Kind}
 use Rattle.hk_base.specs.declared.types.Kind.TheVariants.{Housekeeping, Diagnostic}
 use Rattle.hk_base.specs.Parameters.{key_eq}
 use Rattle.hk_base.specs.TailoringParts.{TailoringParts}
+use Rattle.hk_base.specs.declared.types.Boot.{Boot}
 use Rattle.hk_base.specs.declared.types.Key.{Key}
 use Rattle.hk_base.specs.declared.types.Structure.{Structure}
 use Rattle.hk_world.specs.States.{boot_state}
@@ -87,15 +88,24 @@ abbrev pub AreRisingKeys : List (Key × Held) → Type 0
 AreRisingKeys [] = ⊤
 AreRisingKeys (x ∷ xs) = AllByRecursion (λ y. is_before x.0 y.0 ≡ true) xs × AreRisingKeys xs
 
--- a structure that is held: its definition is valid, its ID fits its field, its first slot is that of the instructions that were done, and slots are small numbers
+-- a structure that is held: its definition is valid, its ID fits its field, and its first slot is that of the instructions that were done
 pub record IsHeld (t : TailoringParts) (done : List Done) (key : Key) (h : Held) : Type 0 where
   pub valid : IsValid t h.structure.def
   pub id : key.id < 256 ^ t.widths.structure_octets
   pub first : h.first_slot ≡ slot_after t (begins_intervals_of key) done
-  pub small : IfSome h.one_shot (λ first. first < 2 ^ 60)
 
 -- the structures that are held are those that the instructions leave
 pub record AreStructures (t : TailoringParts) (done : List Done) (held : List (Key × Held)) : Type 0 where
   pub each : (key : Key) → IfSome (held_at held key) (IsHeld t done key)
   pub same : (key : Key) → held_structure held key ≡ structure_after t (boot_state t) done key
+  pub rising : AreRisingKeys held
+
+-- a structure that is there from the start
+abbrev pub boot_held : Boot → Held
+boot_held b = new_held b.structure 0
+
+-- the structures of some boots, and no others
+pub record AreBoots (boots : List Boot) (held : List (Key × Held)) : Type 0 where
+  pub each : (key : Key) → held_at held key ≡ option_map boot_held (find (λ b. key_eq b.key key) boots)
+  pub none : one_shots_of held ≡ []
   pub rising : AreRisingKeys held

@@ -1,7 +1,7 @@
 //! The report structures, with the slots that their intervals go by.
-ghost use Rattle.std.specs.Prelude.{◌≡◌, ◌≤◌, ◌<◌, ◌^◌, ◌&&◌, ◌||◌, Some, None, IsSome, IfSome, OnOk, OnErr};
+ghost use Rattle.std.specs.Prelude.{◌≡◌, ◌≤◌, ◌+◌, ◌==◌, [], All, Some, None, IsSome, IfSome, IfOk, OnOk, OnErr};
 ghost use Rattle.std.specs.Option.{option_copied};
-ghost use Rattle.board_state.specs.Holdings.{held_at, held_structure, ChangesAt, SetsAt, new_held, with_one_shot, with_structure, ends_one_shot};
+ghost use Rattle.board_state.specs.Holdings.{held_at, held_structure, ChangesAt, SetsAt, new_held, with_one_shot, with_structure, ends_one_shot, is_due_in, due_keys, after_slot, all_after_slot, one_shots_of, AreRisingKeys, AreStructures};
 ghost use Rattle.board_steps.specs.Slots as slots;
 
 use hk_base::{Key, Memory, Structure, Tailoring};
@@ -20,25 +20,31 @@ pub struct Held {
 impl Held {
     /// Whether the one-shot is due in this slot.
     pub fn is_spent(&self, slot: u64) -> bool
-        requires { IfSome self.now.one_shot (λ first. first < 2 ^ 63) × (slot < 2 ^ 63) }
         ensures { result ≡ ends_one_shot slot self.now }
     {
         match self.one_shot {
-            Some(first) => first + u64::from(self.structure.def.interval) == slot + 1,
+            Some(first) => ends_with(first, self.structure.def.interval, slot),
             None => false,
         }
     }
 
     /// Whether a report is due in this slot.
     pub fn is_due(&self, slot: u64) -> bool
-        requires one_shot { IfSome self.now.one_shot (λ first. first < 2 ^ 63) }
-        requires slot { slot < 2 ^ 63 }
-        requires interval { 1 ≤ self.now.structure.def.interval }
-        ensures { result ≡ ((self.now.structure.enabled && slots.ends_interval self.now.first_slot self.now.structure.def.interval slot) || ends_one_shot slot self.now) }
+        requires { 1 ≤ self.now.structure.def.interval }
+        ensures { result ≡ is_due_in slot self.now }
     {
         let interval = u64::from(self.structure.def.interval);
         (self.structure.enabled && ends_interval(self.first_slot, interval, slot))
             || self.is_spent(slot)
+    }
+
+    /// Ends the one-shot where it is due in this slot.
+    fn end_slot(&mut self, slot: u64)
+        ensures { self.new ≡ after_slot slot self.old }
+    {
+        if self.is_spent(slot) {
+            self.one_shot = None;
+        }
     }
 
     /// Begins the intervals anew with this slot.
@@ -52,12 +58,19 @@ impl Held {
     }
 }
 
+/// Whether the first interval of so many slots, which begins with the first of these slots, ends with the other.
+fn ends_with(first: u64, interval: u32, slot: u64) -> bool
+    ensures { result ≡ (first + interval == slot + 1) }
+{
+    u128::from(first) + u128::from(interval) == u128::from(slot) + 1
+}
+
 /// Whether an interval of so many slots ends with a slot, where the first one begins with this slot.
 pub fn ends_interval(first: u64, interval: u64, slot: u64) -> bool
-    requires { (1 ≤ interval) × (slot < 2 ^ 63) }
+    requires { 1 ≤ interval }
     ensures { result ≡ slots.ends_interval first interval slot }
 {
-    first <= slot && (slot - first + 1) % interval == 0
+    first <= slot && (u128::from(slot - first) + 1) % u128::from(interval) == 0
 }
 
 /// The report structures by their keys.
@@ -78,7 +91,10 @@ impl Model for Structures {
 
 impl Structures {
     /// The structures that the board has from its start.
-    pub fn new(alloc: Global, tailoring: &Tailoring) -> Result<Structures, Memory> {
+    pub fn new(alloc: Global, tailoring: &Tailoring) -> Result<Structures, Memory>
+        ensures held { IfOk result (AreStructures tailoring.now []) }
+        ensures none { IfOk result (λ held. one_shots_of held ≡ []) }
+    {
         let mut structures = Structures {
             held: BTreeMap::new(alloc),
         };
@@ -106,6 +122,8 @@ impl Structures {
     /// A new structure.
     pub fn create(&mut self, key: Key, structure: Structure, first_slot: u64) -> Result<(), Memory>
         ensures ok { OnOk result (ChangesAt key (Some (new_held structure first_slot)) self.old self.new) }
+        ensures one_shots { OnOk result (held_at self.old key ≡ None → one_shots_of self.new ≡ one_shots_of self.old) }
+        ensures rising { OnOk result (AreRisingKeys self.new) }
         ensures err { OnErr result (self.new ≡ self.old) }
     {
         let held = Held {
@@ -119,7 +137,9 @@ impl Structures {
 
     /// Takes a structure away, with its one-shot.
     pub fn delete(&mut self, key: Key)
-        ensures { ChangesAt key None self.old self.new }
+        ensures changes { ChangesAt key None self.old self.new }
+        ensures one_shots { IfSome (held_at self.old key) (λ h. h.one_shot ≡ None) → one_shots_of self.new ≡ one_shots_of self.old }
+        ensures rising { AreRisingKeys self.new }
     {
         self.held.remove(&key);
     }
@@ -127,7 +147,7 @@ impl Structures {
     /// Puts a structure in the place of the one that is there. Its intervals begin anew where a slot is given.
     pub fn replace(&mut self, key: Key, structure: Structure, begins: Option<u64>)
         requires { IsSome (held_at self.old key) }
-        ensures { SetsAt key (with_structure structure begins) self.old self.new }
+        ensures sets { SetsAt key (with_structure structure begins) self.old self.new }
     {
         let Some(held) = self.held.get_mut(&key) else {
             unreachable!();
@@ -141,7 +161,7 @@ impl Structures {
     /// A one-shot that begins with this slot, unless one is pending.
     pub fn order_one_shot(&mut self, key: Key, slot: u64)
         requires { IsSome (held_at self.old key) }
-        ensures { SetsAt key (with_one_shot slot) self.old self.new }
+        ensures sets { SetsAt key (with_one_shot slot) self.old self.new }
     {
         let Some(held) = self.held.get_mut(&key) else {
             unreachable!();
@@ -151,8 +171,11 @@ impl Structures {
         }
     }
 
-    /// The keys of the structures that pass a test, in order.
-    pub fn due(&self, alloc: Global, slot: u64) -> Result<Vec<Key>, Memory> {
+    /// The keys of the structures that are due in this slot, in order.
+    pub fn due(&self, alloc: Global, slot: u64) -> Result<Vec<Key>, Memory>
+        requires { All (λ x. 1 ≤ x.1.structure.def.interval) self.now }
+        ensures { IfOk result (λ keys. keys.items ≡ due_keys slot self.now) }
+    {
         let mut keys = Vec::new(alloc);
         for (key, held) in self.held.iter() {
             if held.is_due(slot) {
@@ -163,11 +186,13 @@ impl Structures {
     }
 
     /// Ends the one-shots that are due in this slot.
-    pub fn end_one_shots(&mut self, slot: u64) {
-        for held in self.held.values_mut() {
-            if held.is_spent(slot) {
-                held.one_shot = None;
-            }
-        }
+    pub fn end_one_shots(&mut self, slot: u64)
+        ensures ended { self.new ≡ all_after_slot slot self.old }
+        ensures rising { AreRisingKeys self.new }
+    {
+        self.held.retain(|_, held| {
+            held.end_slot(slot);
+            true
+        });
     }
 }

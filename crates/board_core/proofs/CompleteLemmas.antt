@@ -137,7 +137,7 @@ module _ (clock slot : ℕ) (rq : RequestsHeld) (held : List (Key × Held)) (l :
   executed : last_act w.number l.moments ≡ Some (Executed w.number (length (instructions_at (session (core_of clock slot rq held l)) w.number)) t.flag)
   executed = subst (λ n. last_act n l.moments ≡ Some (Executed n (length (instructions_at (session (core_of clock slot rq held l)) n)) t.flag)) same-number t.executed
 
-  acts : next_acts (session (core_of clock slot rq held l)) l.moments w.number (last_act w.number l.moments) ≡ Completed w.number w.refused.items ∷ []
+  acts : next_acts (session (core_of clock slot rq held l)) l.moments w.number (last_act w.number l.moments) ≡ Completed w.number w.refused ∷ []
   acts =
       let s : Session = session (core_of clock slot rq held l) in
       let n : ℕ = length (instructions_at s w.number) in
@@ -146,8 +146,8 @@ module _ (clock slot : ℕ) (rq : RequestsHeld) (held : List (Key × Held)) (l :
       ∙ ap (λ ns. Completed w.number ns ∷ []) (sym each.each.0.refused)
 
   -- what can be written
-  pub written : length (instructions w.request) ≤ 255 → IfSome (completion w w.refused.items) (IsWritable l.tailoring)
-  written few = completion-writable l.tailoring w w.refused.items fit (subst (λ (i : RequestId). i.word < 256 ^ 4) (sym each.each.0.id) (id-small rq.packets w.number b.stands.octets)) (let most = each.each.0.within in omega (arith, most, few)) each.each.0.rises
+  pub written : length (instructions w.request) ≤ 255 → IfSome (completion w w.refused) (IsWritable l.tailoring)
+  written few = completion-writable l.tailoring w w.refused fit (subst (λ (i : RequestId). i.word < 256 ^ 4) (sym each.each.0.id) (id-small rq.packets w.number b.stands.octets)) (let most = each.each.0.within in omega (arith, most, few)) each.each.0.rises
 
   carried : (m : Moment) (ns : List ℕ) → IsPacket (session (core_of clock slot rq held l)).protocol l.moments m.tag (completion w ns) m.packet
       → Carries (session (core_of clock slot rq held l)) l.moments m (Completed w.number ns)
@@ -162,20 +162,20 @@ module _ (clock slot : ℕ) (rq : RequestsHeld) (held : List (Key × Held)) (l :
       subst (λ i. IsReport s m (Verify (verify.Incomplete i 200 (n ∷ ns)))) each.each.0.id (verified s l.moments m (Verify (verify.Incomplete w.id 200 (n ∷ ns))) h)
 
   -- what is planned
-  pub completion-planned : planned (core_of clock slot rq held l) Work ≡ does (Completed w.number w.refused.items) ∷ []
-  completion-planned = work-planned clock slot rq held l w.number (Completed w.number w.refused.items) first acts (λ tag. refl)
+  pub completion-planned : planned (core_of clock slot rq held l) Work ≡ does (Completed w.number w.refused) ∷ []
+  completion-planned = work-planned clock slot rq held l w.number (Completed w.number w.refused) first acts (λ tag. refl)
 
   -- a request that has ended
-  pub completed : (after : LogParts) (count : ℕ) → AnswersOne l clock (Completed w.number w.refused.items) (completion w w.refused.items) after (Ok count)
+  pub completed : (after : LogParts) (count : ℕ) → AnswersOne l clock (Completed w.number w.refused) (completion w w.refused) after (Ok count)
       → Answers (core_of clock slot rq held l) Work (core_of clock slot (record { packets = rq.packets; waiting = ws }) held after) (Ok count)
       × IsBoard (core_of clock slot (record { packets = rq.packets; waiting = ws }) held after) ws
   completed after count h =
       let s : Session = session (core_of clock slot rq held l) in
       let k : ℕ = w.number in
-      let act : Act = Completed w.number w.refused.items in
+      let act : Act = Completed w.number w.refused in
       let m : Moment = h.3.0 in
-      let carries = carried m w.refused.items h.3.1.packet in
-      let step = work-step clock slot rq held l k act first acts (λ tag. refl) ws (completion w w.refused.items) m h.3.1 carries in
+      let carries = carried m w.refused h.3.1.packet in
+      let step = work-step clock slot rq held l k act first acts (λ tag. refl) ws (completion w w.refused) m h.3.1 carries in
       let full = work-full clock slot rq held l k act first acts (λ tag. refl) ∙ h.0 in
       let late = work-late clock slot rq held l k act first acts (λ tag. refl) ∙ h.1 in
       let core : Core = core_of clock slot (record { packets = rq.packets; waiting = ws }) held (with_moments l (m ∷ l.moments)) in
@@ -192,13 +192,13 @@ module _ (clock slot : ℕ) (rq : RequestsHeld) (held : List (Key × Held)) (l :
       )
 
   -- a request that can't end now, since there is no room or no time
-  pub not-completed : (fault : BoardFault) (after : LogParts) → AnswersOne l clock (Completed w.number w.refused.items) (completion w w.refused.items) after (Err fault)
+  pub not-completed : (fault : BoardFault) (after : LogParts) → AnswersOne l clock (Completed w.number w.refused) (completion w w.refused) after (Err fault)
       → Answers (core_of clock slot rq held l) Work (core_of clock slot rq held after) (Err fault) × (after ≡ l)
-  not-completed JournalFull after h = ((work-full clock slot rq held l w.number (Completed w.number w.refused.items) first acts (λ tag. refl) ∙ h.0, ap (core_of clock slot rq held) h.1), h.1)
+  not-completed JournalFull after h = ((work-full clock slot rq held l w.number (Completed w.number w.refused) first acts (λ tag. refl) ∙ h.0, ap (core_of clock slot rq held) h.1), h.1)
   not-completed TimeExhausted after h = (
     (
-      work-full clock slot rq held l w.number (Completed w.number w.refused.items) first acts (λ tag. refl) ∙ h.0,
-      work-late clock slot rq held l w.number (Completed w.number w.refused.items) first acts (λ tag. refl) ∙ h.1,
+      work-full clock slot rq held l w.number (Completed w.number w.refused) first acts (λ tag. refl) ∙ h.0,
+      work-late clock slot rq held l w.number (Completed w.number w.refused) first acts (λ tag. refl) ∙ h.1,
       ap (core_of clock slot rq held) h.2,
     ),
     h.2,

@@ -76,7 +76,7 @@ module _ (clock slot : ℕ) (rq : RequestsHeld) (held : List (Key × Held)) (l :
   known = omega (arith, packet-length (core_of clock slot rq held l) packet k next)
 
   -- an accepted request
-  pub accepted : (r : Request) → (protocol l.tailoring).request packet ≡ Ok r → (w : Running) → w.number ≡ k → w.started ≡ false → w.executed ≡ 0 → w.refused.items ≡ []
+  pub accepted : (r : Request) → (protocol l.tailoring).request packet ≡ Ok r → (w : Running) → w.number ≡ k → w.started ≡ false → w.executed ≡ 0 → w.refused ≡ []
       → w.request ≡ r → w.id ≡ id_of_packet packet → (body : Option ReportBody) → body ≡ (if asks r Acceptance then Some (Verify (verify.Accepted w.id)) else None)
       → (after : LogParts) (count : ℕ) → AnswersOne l clock (Accepted k) body after (Ok count)
       → Answers (core_of clock slot rq held l) (Uplink packet) (core_of clock slot (record { packets = with_request rq.packets k packet; waiting = rq.waiting ++ w ∷ [] }) held after) (Ok count)

@@ -10,3 +10,8 @@ mod RefuseLemmas
 mod CompleteLemmas
 mod WholeLemmas
 mod WorkingLemmas
+mod ExecutedLemmas
+mod CarriedLemmas
+mod ChangeLemmas
+mod FoundLemmas
+mod FinishedLemmas

@@ -56,7 +56,7 @@ completion w (n ∷ ns) = Some (Verify (verify.Incomplete w.id 200 (n ∷ ns)))
 
 -- the end of a request, with its report if one is due
 abbrev pub CompletesWith : Running → Act × Option ReportBody → Type 0
-CompletesWith w told = (told.0 ≡ Completed w.number w.refused.items) × (told.1 ≡ completion w w.refused.items)
+CompletesWith w told = (told.0 ≡ Completed w.number w.refused) × (told.1 ≡ completion w w.refused)
 
 -- instructions are left of the request that is worked on, which has started
 pub record IsToExecute (c : Core) : Type 0 where

@@ -1,5 +1,5 @@
 //! The execution of an instruction.
-ghost use Rattle.std.specs.Prelude.{◌≡◌, ◌+◌, ◌/◌, ◌<◌, ◌≤◌, ◌^◌, ◌∷◌, [], max, Some, None, IfOk, IfSome, OnOk};
+ghost use Rattle.std.specs.Prelude.{◌≡◌, ◌+◌, ◌/◌, ◌<◌, ◌≤◌, ◌^◌, ◌∷◌, [], max, Some, None, IfOk, if◌then◌else◌};
 ghost use Rattle.hk_base.specs.Fit as fit;
 ghost use Rattle.pus_messages.specs.Instructions.{Instruction, report_values};
 ghost use Rattle.st20_grammar.specs.Spelling.{AreIds};
@@ -23,7 +23,7 @@ use board_state::{Running, StatisticsChange};
 use board_steps::BoardFault;
 use hk_base::{Items, Key, Memory, Structure, slot_of};
 use hk_world::Act;
-use pus_messages::ReportBody;
+use pus_messages::{ReportBody, requests_are_spelled};
 use report_structures::Refusal;
 use st03_grammar::{PeriodicRow, Report03};
 use st20_grammar::{Report20, Setting};
@@ -143,19 +143,25 @@ impl BoardCore {
         slot_of(self.log.tailoring(), tag) + 1
     }
 
+    /// The slot with which intervals begin anew, where they do.
+    fn begin_slot(&self, begins: bool) -> Option<u64>
+        ensures { result ≡ (if begins then Some (fit.slot_of self.now.tailoring (next_tag self.now.clock self.now.moments) + 1) else None) }
+    {
+        if begins { Some(self.next_slot()) } else { None }
+    }
+
     /// An instruction was refused.
     fn pass_over(&mut self, refusal: Refusal, draft: Draft) -> Result<u32, BoardFault>
         requires { IsToCarry self.old (effect.Refused refusal) draft }
         ensures { Answers self.old Work self.new result }
     {
-        self.requests.count_refused()?;
-        match self.log.commit(draft) {
-            Ok(count) => Ok(count),
-            Err(Memory) => {
-                self.requests.uncount_refused();
-                Err(BoardFault::Memory)
-            }
-        }
+        // A law, and the fitness of the tailoring: they do nothing.
+        requests_are_spelled();
+        let _fit = self.log.tailoring().widths();
+        let refused = self.requests.refused_next()?;
+        let count = self.log.commit(draft)?;
+        self.requests.count_refused(refused);
+        Ok(count)
     }
 
     /// A new structure, for which the memory is taken first.
@@ -163,6 +169,9 @@ impl BoardCore {
         requires { IsToCarry self.old (effect.Create key structure) draft }
         ensures { Answers self.old Work self.new result }
     {
+        // A law, and the fitness of the tailoring: they do nothing.
+        requests_are_spelled();
+        let _fit = self.log.tailoring().widths();
         let first_slot = self.next_slot();
         self.structures.create(key, structure, first_slot)?;
         match self.log.commit(draft) {
@@ -182,6 +191,9 @@ impl BoardCore {
         requires { IsToCarry self.old (effect.Delete key) draft }
         ensures { Answers self.old Work self.new result }
     {
+        // A law, and the fitness of the tailoring: they do nothing.
+        requests_are_spelled();
+        let _fit = self.log.tailoring().widths();
         let count = self.log.commit(draft)?;
         self.structures.delete(key);
         self.requests.count_done();
@@ -199,7 +211,10 @@ impl BoardCore {
         requires { IsToCarry self.old (effect.Replace key structure begins) draft }
         ensures { Answers self.old Work self.new result }
     {
-        let begins = if begins { Some(self.next_slot()) } else { None };
+        // A law, and the fitness of the tailoring: they do nothing.
+        requests_are_spelled();
+        let _fit = self.log.tailoring().widths();
+        let begins = self.begin_slot(begins);
         let count = self.log.commit(draft)?;
         self.structures.replace(key, structure, begins);
         self.requests.count_done();
@@ -211,6 +226,9 @@ impl BoardCore {
         requires { IsToCarry self.old (effect.OrderOneShot key) draft }
         ensures { Answers self.old Work self.new result }
     {
+        // A law, and the fitness of the tailoring: they do nothing.
+        requests_are_spelled();
+        let _fit = self.log.tailoring().widths();
         let next_slot = self.next_slot();
         let count = self.log.commit(draft)?;
         self.structures.order_one_shot(key, next_slot);
@@ -223,6 +241,9 @@ impl BoardCore {
         requires { IsToCarry self.old (effect.SetValues settings) draft }
         ensures { Answers self.old Work self.new result }
     {
+        // A law, and the fitness of the tailoring: they do nothing.
+        requests_are_spelled();
+        let _fit = self.log.tailoring().widths();
         let count = self.log.commit(draft)?;
         self.channels.set(settings.as_slice());
         self.requests.count_done();
@@ -234,6 +255,9 @@ impl BoardCore {
         requires { (e : Effect) × IsToCarry self.old e draft × OnlyShows e }
         ensures { Answers self.old Work self.new result }
     {
+        // A law, and the fitness of the tailoring: they do nothing.
+        requests_are_spelled();
+        let _fit = self.log.tailoring().widths();
         let count = self.log.commit(draft)?;
         self.requests.count_done();
         Ok(count)

@@ -181,9 +181,9 @@ fn completion_of(alloc: Global, running: &Running) -> Result<Told, Memory>
 
 /// The report of a request that has ended, where it is due.
 fn completion_report(alloc: Global, running: &Running) -> Result<Option<ReportBody>, Memory>
-    ensures { IfOk result (λ body. body ≡ completion running.now running.now.refused.items) }
+    ensures { IfOk result (λ body. body ≡ completion running.now running.now.refused) }
 {
-    if running.refused.is_empty() {
+    if running.refused.as_slice().is_empty() {
         return Ok(running.report_if(Asked::Completion, Verification::Completed(running.id)));
     }
     let refused = Items::from_slice(alloc, running.refused.as_slice())?;

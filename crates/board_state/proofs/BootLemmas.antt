@@ -1,5 +1,5 @@
 -- The structures that are there from the start, one after the other.
-use Rattle.std.proofs.Common.{arith, ◌≡◌, ℕ, zero, suc, ◌+◌, ◌<◌, ◌^◌, refl, sym, ◌∙◌, ap, ap₂, subst, List, [], ◌∷◌, ◌++◌, map, take, length, Bool, true, false, Option, Some, None}
+use Rattle.std.proofs.Common.{arith, ◌≡◌, ℕ, zero, suc, ◌+◌, ◌<◌, ◌^◌, refl, sym, ◌∙◌, ap, ap₂, subst, List, [], ◌∷◌, ◌++◌, map, take, length, Bool, true, false, get_or, Option, Some, None}
 use Rattle.std.specs.Prelude.{cond, find, slice_get, IfSome, option_map, if◌then◌else◌}
 use Rattle.std.specs.List.{AllByRecursion, IsDistinct}
 use Rattle.std.specs.Option.{option_or}
@@ -90,3 +90,9 @@ boots-held t held fit h =
     same : (o : Option Boot) → option_map (λ x. x.structure) (option_map boot_held o) ≡ option_map (λ b. b.structure) o
     same None = refl
     same (Some b) = refl
+
+-- a member that is looked at stands at its place
+pub item-there : {X : Type 0} (xs : List X) (i : ℕ) (x : X) → i < length xs → x ≡ get_or xs i x → slice_get xs i ≡ Some x
+item-there [] i x lt e = absurd (omega (arith, lt))
+item-there (y ∷ ys) zero x lt e = ap Some (sym e)
+item-there (y ∷ ys) (suc i) x lt e = item-there ys i x (omega (arith, lt)) e

@@ -176,11 +176,12 @@ values-agree s other moments channels agree h = record { ids = h.ids; each = go 
   where
     go : (cs : List (ℕ × Channel)) → AllByRecursion (λ e. IsChannel s moments e.0 e.1) cs → AllByRecursion (λ e. IsChannel (exchanged s other) moments e.0 e.1) cs
     go [] k = tt
-    go (e ∷ cs) k =
-        (record {
-          settable = k.0.settable;
-          value = k.0.value ∙ ap (λ (b : BoardState). b.value e.0) (state-agrees s other moments agree);
-          window = k.0.window;
-          rises = k.0.rises;
-        },
-        go cs k.1)
+    go (e ∷ cs) k = (
+      record {
+        settable = k.0.settable;
+        value = k.0.value ∙ ap (λ (b : BoardState). b.value e.0) (state-agrees s other moments agree);
+        window = k.0.window;
+        rises = k.0.rises;
+      },
+      go cs k.1,
+    )

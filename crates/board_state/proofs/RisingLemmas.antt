@@ -3,7 +3,7 @@ use Rattle.std.proofs.Common.{◌≡◌, ℕ, refl, sym, ◌∙◌, ap, ap₂, s
 use Rattle.std.specs.Prelude.{cond, nat_lt, IfSome, option_map, option_and_then, if◌then◌else◌}
 use Rattle.std.specs.List.{AllByRecursion, cons_option}
 use Rattle.std.specs.List.Sorted.{IsStrictlySortedBy}
-use Rattle.std.specs.Map.{lookup, keys_of, remove_entry}
+use Rattle.std.specs.Map.{lookup, keys_of, remove_entry, set_value}
 use Rattle.std.specs.BTreeMap.{is_at, insert_entry}
 use Rattle.std.specs.Ordering.{is_eq, nat_cmp, match_ordering}
 use Rattle.std.specs.Cmp.{nat_cmp_is}
@@ -20,9 +20,10 @@ use Rattle.hk_base.specs.declared.types.Kind.{Kind}
 use Rattle.hk_base.specs.declared.types.Kind.TheVariants.{Housekeeping, Diagnostic}
 use Rattle.hk_world.specs.Timelines.{Done}
 use Rattle.hk_world.proofs.OrderLemmas.{true_is_not_false}
-use Rattle.board_state.specs.Holdings.{held_at, held_structure, is_before, AreRisingKeys, one_shot_of, one_shots_of, ends_one_shot, after_slot, all_after_slot, IsHeld, AreStructures}
+use Rattle.board_state.specs.Holdings.{held_at, held_structure, SetsAt, is_before, AreRisingKeys, one_shot_of, one_shots_of, ends_one_shot, after_slot, all_after_slot, IsHeld, AreStructures}
 use Rattle.board_state.specs.declared.structures.Held.{Held}
 use Rattle.board_state.proofs.HoldingLemmas.{keys-one}
+use Rattle.board_state.proofs.KeyLemmas.{lookup-same}
 
 -- numbers that compare as less are less
 less-is : (m n : ℕ) → nat_cmp m n ≡ Less → nat_lt m n ≡ true
@@ -169,3 +170,34 @@ removed-one-shots test (x ∷ xs) h = go (test x.0) h (removed-one-shots test xs
         → one_shots_of (cond b xs (x ∷ remove_entry test xs)) ≡ one_shots_of (x ∷ xs)
     go true k ih = sym (ap (λ o. cons_option (option_map (λ n. (x.0, n)) o) (one_shots_of xs)) k)
     go false k ih = ap (λ l. cons_option (one_shot_of x) l) (ih k)
+
+-- what is changed in its place leaves the order of keys
+set-rising : (test : Key → Bool) (held : List (Key × Held)) (to : Held) → AreRisingKeys held → AreRisingKeys (set_value test held to)
+set-rising test [] to h = tt
+set-rising test (x ∷ xs) to h = go (test x.0) (set-rising test xs to h.1)
+  where
+    all : (ys : List (Key × Held)) → AllByRecursion (λ y. is_before x.0 y.0 ≡ true) ys → AllByRecursion (λ y. is_before x.0 y.0 ≡ true) (set_value test ys to)
+    all [] k = tt
+    all (y ∷ ys) k = here (test y.0) (all ys k.1)
+      where
+        here : (b : Bool) → AllByRecursion (λ z. is_before x.0 z.0 ≡ true) (set_value test ys to) → AllByRecursion (λ z. is_before x.0 z.0 ≡ true) (cond b ((y.0, to) ∷ ys) (y ∷ set_value test ys to))
+        here true more = (k.0, k.1)
+        here false more = (k.0, more)
+
+    go : (b : Bool) → AreRisingKeys (set_value test xs to) → AreRisingKeys (cond b ((x.0, to) ∷ xs) (x ∷ set_value test xs to))
+    go true more = (h.0, h.1)
+    go false more = (all xs h.0, more)
+
+pub sets-rising : (key : Key) (f : Held → Held) (old new : List (Key × Held)) (was : Held) → held_at old key ≡ Some was → SetsAt key f old new → AreRisingKeys old → AreRisingKeys new
+sets-rising key f old new was e h rising = go (held_at old key) e h
+  where
+    go : (o : Option Held) → o ≡ Some was → IfSome o (λ x. new ≡ set_value (key_eq key) old (f x)) → AreRisingKeys new
+    go None q k = absurd (none-some was q)
+    go (Some x) q k = subst AreRisingKeys (sym k) (set-rising (key_eq key) old (f x) rising)
+
+-- the same by an order, which the look-ups before and after tell
+pub removed-at : (cmp : Key → Key → Ordering) (key : Key) (old new : List (Key × Held)) → ((q : Key) → lookup (is_at (cmp q)) new ≡ cond (is_at (cmp key) q) None (lookup (is_at (cmp q)) old))
+    → ((a b : Key) → is_at (cmp a) b ≡ key_eq a b) → new ≡ remove_entry (is_at (cmp key)) old → IfSome (held_at old key) (λ h. h.one_shot ≡ None) → one_shots_of new ≡ one_shots_of old
+removed-at cmp key old new updates same is h =
+    ap one_shots_of is
+    ∙ removed-one-shots (is_at (cmp key)) old (subst (λ (o : Option Held). IfSome o (λ x. x.one_shot ≡ None)) (sym (lookup-same (is_at (cmp key)) (key_eq key) (same key) old)) h)

@@ -90,8 +90,8 @@ order-more (x ∷ ws) w h below =
 
 -- a packet was accepted, and its request waits
 pub waiting-accepted : (s : Session) (more : List (List ℕ)) (moments : List Moment) (m : Moment) (k : ℕ) → length s.requests ≤ k → k < length (grown s more).requests
-    → m.act ≡ Accepted k → (ws : List Running) (w : Running) → w.number ≡ k → w.started ≡ false → w.executed ≡ 0 → w.refused.items ≡ refused_numbers k moments
-    → w.refused.items ≡ [] → request_at (grown s more) k ≡ Some w.request → w.id ≡ request_id (grown s more) k → AreWaiting s moments ws → AreWaiting (grown s more) (m ∷ moments) (ws ++ w ∷ [])
+    → m.act ≡ Accepted k → (ws : List Running) (w : Running) → w.number ≡ k → w.started ≡ false → w.executed ≡ 0 → w.refused ≡ refused_numbers k moments
+    → w.refused ≡ [] → request_at (grown s more) k ≡ Some w.request → w.id ≡ request_id (grown s more) k → AreWaiting s moments ws → AreWaiting (grown s more) (m ∷ moments) (ws ++ w ∷ [])
 waiting-accepted s more moments m k next known e ws w number started executed refused none request id h =
     let P : ℕ → Type 0 = λ n. n < length (grown s more).requests in
     let new : IsRunning (grown s more) (m ∷ moments) w =

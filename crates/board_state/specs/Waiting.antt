@@ -1,5 +1,5 @@
 -- The requests that wait: those that were accepted and haven't ended, in the order of their numbers.
-use Rattle.std.specs.Prelude.{◌≡◌, ℕ, zero, suc, ◌+◌, ◌-◌, take, ◌/◌, ◌%◌, ◌^◌, ◌<◌, ◌≤◌, ⊤, List, [], ◌∷◌, ◌++◌, length, Bool, true, false, ◌==◌, Option, Some, IsTrue}
+use Rattle.std.specs.Prelude.{◌≡◌, ℕ, zero, suc, ◌+◌, ◌/◌, ◌%◌, ◌^◌, ◌<◌, ◌≤◌, ⊤, List, [], ◌∷◌, ◌++◌, length, Bool, true, false, ◌==◌, Option, Some, IsTrue}
 use Rattle.std.specs.List.{AllByRecursion, list_any}
 use Rattle.pus_messages.specs.Instructions.{instructions}
 use Rattle.pus_messages.specs.declared.message.Request.{Request}
@@ -57,8 +57,8 @@ pub record IsRunning (s : Session) (moments : List Moment) (w : Running) : Type 
   pub id : w.id ≡ request_id s w.number
   pub stage : IsStage w.number w.started w.executed (last_act w.number moments)
   pub within : w.executed ≤ length (instructions w.request)
-  pub refused : w.refused.items ≡ refused_numbers w.number moments
-  pub rises : AreWithin 0 w.executed w.refused.items
+  pub refused : w.refused ≡ refused_numbers w.number moments
+  pub rises : AreWithin 0 w.executed w.refused
 
 -- their numbers rise
 abbrev pub AreInOrder : List Running → Type 0
@@ -88,14 +88,14 @@ pub record IsWith (w : Running) (executed : ℕ) (refused : List ℕ) (v : Runni
   pub request : v.request ≡ w.request
   pub started : v.started ≡ w.started
   pub executed_is : v.executed ≡ executed
-  pub refused_are : v.refused.items ≡ refused
+  pub refused_are : v.refused ≡ refused
 
--- one more instruction of the first of the requests was refused
-abbrev pub IsFirstRefused : List Running → List Running → Type 0
-IsFirstRefused [] now = now ≡ []
-IsFirstRefused (w ∷ ws) now = (v : Running) × (now ≡ v ∷ ws) × IsWith w (w.executed + 1) (w.refused.items ++ (w.executed + 1) ∷ []) v
+-- the refused numbers of the first of the requests, with the next one
+abbrev pub next_refused : List Running → List ℕ
+next_refused [] = []
+next_refused (w ∷ ws) = w.refused ++ (w.executed + 1) ∷ []
 
--- the last instruction of the first of the requests wasn't refused, after all
-abbrev pub IsFirstTakenBack : List Running → List Running → Type 0
-IsFirstTakenBack [] now = now ≡ []
-IsFirstTakenBack (w ∷ ws) now = (v : Running) × (now ≡ v ∷ ws) × IsWith w (w.executed - 1) (take (length w.refused.items - 1) w.refused.items) v
+-- one more instruction of the first of the requests was refused, so that these are
+abbrev pub first_refused : List ℕ → List Running → List Running
+first_refused numbers [] = []
+first_refused numbers (w ∷ ws) = record w { executed = w.executed + 1; refused = numbers } ∷ ws

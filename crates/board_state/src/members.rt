@@ -318,11 +318,7 @@ fn remove(members: &mut Vec<Member>, param: u32)
 }
 
 /// The rows of the members that have samples, in order.
-fn rows_of(
-    alloc: Global,
-    tailoring: &Tailoring,
-    members: &[Member],
-) -> Result<Vec<StatRow>, Memory>
+fn rows_of(alloc: Global, tailoring: &Tailoring, members: &[Member]) -> Result<Vec<StatRow>, Memory>
     requires { All (IsTimely tailoring.now) members.now }
     ensures { IfOk result (λ rows. AreRowsOf tailoring.now members.now rows.items) }
 {

@@ -1,12 +1,12 @@
 //! The requests that were handled, and those that wait.
-ghost use Rattle.std.specs.Prelude.{◌≡◌, ◌≤◌, ◌<◌, ◌+◌, ◌-◌, ◌++◌, ◌∷◌, [], length, take, drop, replicate, slice_get, IfSome, OnOk, OnErr};
+ghost use Rattle.std.specs.Prelude.{◌≡◌, ◌≤◌, ◌<◌, ◌+◌, ◌-◌, ◌++◌, ◌∷◌, [], length, take, drop, replicate, slice_get, IfOk, IfSome, OnOk, OnErr};
 ghost use Rattle.std.specs.Option.{option_copied};
 ghost use Rattle.pus_messages.specs.Instructions.{instructions};
 ghost use Rattle.board_steps.specs.Plans.{with_request};
-ghost use Rattle.board_state.specs.Waiting.{RequestsHeld, Stays, first_started, first_done, IsFirstRefused, IsFirstTakenBack};
+ghost use Rattle.board_state.specs.Waiting.{RequestsHeld, Stays, first_started, first_done, first_refused, next_refused};
 
 use crate::running::Running;
-use hk_base::{Memory, Octets};
+use hk_base::{Items, Memory, Octets};
 use std::alloc::Global;
 use std::collections::VecDeque;
 use std::marker::Model;
@@ -127,7 +127,7 @@ impl Requests {
 
     /// An instruction of the request that is worked on was done.
     pub fn count_done(&mut self)
-        requires { IfSome (slice_get self.old.waiting 0) (λ w. w.executed < 255) }
+        requires { IfSome (slice_get self.old.waiting 0) (λ w. w.executed < length (instructions w.request)) }
         ensures { self.new ≡ record self.old { waiting = first_done self.old.waiting } }
     {
         if let Some(running) = self.waiting.get_mut(0) {
@@ -135,29 +135,30 @@ impl Requests {
         }
     }
 
-    /// An instruction of the request that is worked on was refused.
-    pub fn count_refused(&mut self) -> Result<(), Memory>
-        requires { IfSome (slice_get self.old.waiting 0) (λ w. w.executed < 255) }
-        ensures packets { self.new.packets ≡ self.old.packets }
-        ensures ok { OnOk result (IsFirstRefused self.old.waiting self.new.waiting) }
-        ensures err { OnErr result (self.new ≡ self.old) }
+    /// The numbers of the refused instructions of the request that is worked on, with the next one.
+    pub fn refused_next(&self) -> Result<Items<u32>, Memory>
+        requires { IfSome (slice_get self.now.waiting 0) (λ w. w.executed < length (instructions w.request)) }
+        ensures { IfOk result (λ numbers. numbers ≡ next_refused self.now.waiting) }
     {
-        if let Some(running) = self.waiting.get_mut(0) {
-            running.refused.push(running.executed + 1)?;
-            running.executed += 1;
+        match self.first() {
+            Some(running) => {
+                let number = running.executed + 1;
+                let mut numbers = Vec::from_slice(self.alloc, running.refused.as_slice())?;
+                numbers.push(number)?;
+                Ok(Items::from_vec(numbers))
+            }
+            None => Ok(Items::from_vec(Vec::new(self.alloc))),
         }
-        Ok(())
     }
 
-    /// The last instruction of the request that is worked on wasn't refused, after all.
-    pub fn uncount_refused(&mut self)
-        requires { IfSome (slice_get self.old.waiting 0) (λ w. 1 ≤ w.executed) }
-        ensures packets { self.new.packets ≡ self.old.packets }
-        ensures back { IsFirstTakenBack self.old.waiting self.new.waiting }
+    /// An instruction of the request that is worked on was refused: with it these are.
+    pub fn count_refused(&mut self, refused: Items<u32>)
+        requires { IfSome (slice_get self.old.waiting 0) (λ w. w.executed < length (instructions w.request)) }
+        ensures { self.new ≡ record self.old { waiting = first_refused refused self.old.waiting } }
     {
         if let Some(running) = self.waiting.get_mut(0) {
-            running.refused.pop();
-            running.executed -= 1;
+            running.refused = refused;
+            running.executed += 1;
         }
     }
 

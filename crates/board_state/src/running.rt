@@ -5,7 +5,7 @@ ghost use Rattle.pus_messages.specs.declared.message.ReportBody.TheVariants.{Ver
 ghost use Rattle.hk_world.specs.Honest.{id_of_packet};
 ghost use Rattle.board_state.specs.Waiting.{asks, bit_of};
 
-use hk_base::{RequestId, get_uint};
+use hk_base::{Items, RequestId, get_uint};
 use pus_messages::{ReportBody, Request, instructions};
 use st01_reports::Verification;
 use std::alloc::Global;
@@ -20,7 +20,7 @@ pub struct Running {
     /// How many of its instructions were executed.
     pub executed: u32,
     /// The numbers of those that were refused.
-    pub refused: Vec<u32>,
+    pub refused: Items<u32>,
 }
 
 impl Running {
@@ -30,7 +30,7 @@ impl Running {
         ensures request { result.request ≡ request }
         ensures not_started { result.started ≡ false }
         ensures not_executed { result.executed ≡ 0 }
-        ensures none_refused { result.refused.items ≡ [] }
+        ensures none_refused { result.refused ≡ [] }
     {
         Running {
             number,
@@ -38,7 +38,7 @@ impl Running {
             request,
             started: false,
             executed: 0,
-            refused: Vec::new(alloc),
+            refused: Items::from_vec(Vec::new(alloc)),
         }
     }
 

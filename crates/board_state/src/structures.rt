@@ -1,10 +1,12 @@
 //! The report structures, with the slots that their intervals go by.
-ghost use Rattle.std.specs.Prelude.{◌≡◌, ◌≤◌, ◌+◌, ◌==◌, [], All, Some, None, IsSome, IfSome, IfOk, OnOk, OnErr};
+ghost use Rattle.std.specs.Prelude.{◌≡◌, ◌≤◌, ◌+◌, ◌==◌, [], map, Some, None, IsSome, IfSome, IfOk, OnOk, OnErr};
+ghost use Rattle.std.specs.List.{AllByRecursion, IsDistinct};
 ghost use Rattle.std.specs.Option.{option_copied};
-ghost use Rattle.board_state.specs.Holdings.{held_at, held_structure, ChangesAt, SetsAt, new_held, with_one_shot, with_structure, ends_one_shot, is_due_in, due_keys, after_slot, all_after_slot, one_shots_of, AreRisingKeys, AreStructures};
+ghost use Rattle.board_state.specs.Holdings.{held_at, held_structure, ChangesAt, SetsAt, new_held, with_one_shot, with_structure, ends_one_shot, is_due_in, due_keys, after_slot, all_after_slot, one_shots_of, AreRisingKeys, AreBoots, AreStructures};
 ghost use Rattle.board_steps.specs.Slots as slots;
+ghost use Rattle.hk_base.specs.Parameters.{key_eq};
 
-use hk_base::{Key, Memory, Structure, Tailoring};
+use hk_base::{Boot, Key, Memory, Structure, Tailoring};
 use std::alloc::Global;
 use std::collections::BTreeMap;
 use std::marker::Model;
@@ -95,13 +97,7 @@ impl Structures {
         ensures held { IfOk result (AreStructures tailoring.now []) }
         ensures none { IfOk result (λ held. one_shots_of held ≡ []) }
     {
-        let mut structures = Structures {
-            held: BTreeMap::new(alloc),
-        };
-        for boot in tailoring.boots() {
-            structures.create(boot.key, boot.structure.copy(alloc)?, 0)?;
-        }
-        Ok(structures)
+        of_boots(alloc, tailoring.boots())
     }
 
     pub fn get(&self, key: Key) -> Option<&Held>
@@ -173,7 +169,7 @@ impl Structures {
 
     /// The keys of the structures that are due in this slot, in order.
     pub fn due(&self, alloc: Global, slot: u64) -> Result<Vec<Key>, Memory>
-        requires { All (λ x. 1 ≤ x.1.structure.def.interval) self.now }
+        requires { AllByRecursion (λ x. 1 ≤ x.1.structure.def.interval) self.now }
         ensures { IfOk result (λ keys. keys.items ≡ due_keys slot self.now) }
     {
         let mut keys = Vec::new(alloc);
@@ -195,4 +191,18 @@ impl Structures {
             true
         });
     }
+}
+
+/// The structures of boots with different keys.
+fn of_boots(alloc: Global, boots: &[Boot]) -> Result<Structures, Memory>
+    requires { IsDistinct key_eq (map (λ b. b.key) boots.now) }
+    ensures { IfOk result (AreBoots boots.now) }
+{
+    let mut structures = Structures {
+        held: BTreeMap::new(alloc),
+    };
+    for boot in boots {
+        structures.create(boot.key, boot.structure.copy(alloc)?, 0)?;
+    }
+    Ok(structures)
 }

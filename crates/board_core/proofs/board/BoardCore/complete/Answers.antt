@@ -48,13 +48,13 @@ invariant_of-self c =
     let only = c.requests_are_spelled.ensures.only b.log.tailoring in
     let told = c.in_ok-act.ensures in
     let g = subst (λ (a : Act). AnswersOne b.log b.clock a c.in_ok-act.report c.add_one.new.self (Ok c.in-Ok.count)) told.0 c.in-Ok.ensures in
-    let h = subst (λ x. AnswersOne b.log b.clock (Completed w.number w.refused.items) x c.add_one.new.self (Ok c.in-Ok.count)) told.1 g in
+    let h = subst (λ x. AnswersOne b.log b.clock (Completed w.number w.refused) x c.add_one.new.self (Ok c.in-Ok.count)) told.1 g in
     let r = completed b.clock b.slot_now b.requests b.structures b.log w ws waits fit only c.self.invariant.board t c.add_one.new.self c.in-Ok.count h in
     let held : c.end_first.new.self ≡ record { packets = b.requests.packets; waiting = ws } = c.end_first.ensures in
     let before : Core = core_of b.clock b.slot_now b.requests b.structures b.log in
     let plans = completion-planned b.clock b.slot_now b.requests b.structures b.log w ws waits fit only c.self.invariant.board t in
     subst (λ (x : RequestsHeld). IsWhole (core_of b.clock b.slot_now x b.structures c.add_one.new.self) x.waiting b.structures b.channels b.members) (sym held)
-    (work-holds before (core_of b.clock b.slot_now (record { packets = b.requests.packets; waiting = ws }) b.structures c.add_one.new.self) b.requests.waiting ws b.structures b.channels b.members (Completed w.number w.refused.items) plans (λ tag. refl) tt r.0.3 r.1 c.self.invariant)
+    (work-holds before (core_of b.clock b.slot_now (record { packets = b.requests.packets; waiting = ws }) b.structures c.add_one.new.self) b.requests.waiting ws b.structures b.channels b.members (Completed w.number w.refused) plans (λ tag. refl) tt r.0.3 r.1 c.self.invariant)
 
 pub returns-in-Ok : goal.returns-in-Ok
 returns-in-Ok c =
@@ -67,7 +67,7 @@ returns-in-Ok c =
     let only = c.requests_are_spelled.ensures.only b.log.tailoring in
     let told = c.in_ok-act.ensures in
     let g = subst (λ (a : Act). AnswersOne b.log b.clock a c.in_ok-act.report c.add_one.new.self (Ok c.in-Ok.count)) told.0 c.in-Ok.ensures in
-    let h = subst (λ x. AnswersOne b.log b.clock (Completed w.number w.refused.items) x c.add_one.new.self (Ok c.in-Ok.count)) told.1 g in
+    let h = subst (λ x. AnswersOne b.log b.clock (Completed w.number w.refused) x c.add_one.new.self (Ok c.in-Ok.count)) told.1 g in
     let r = completed b.clock b.slot_now b.requests b.structures b.log w ws waits fit only c.self.invariant.board t c.add_one.new.self c.in-Ok.count h in
     let held : c.end_first.new.self ≡ record { packets = b.requests.packets; waiting = ws } = c.end_first.ensures in
     subst (λ (x : Core). Answers x Work (core_of b.clock b.slot_now c.end_first.new.self b.structures c.add_one.new.self) (Ok c.in-Ok.count)) c.self.view_is
@@ -84,6 +84,6 @@ returns-in-Err c =
     let only = c.requests_are_spelled.ensures.only b.log.tailoring in
     let told = c.in_ok-act.ensures in
     let g = subst (λ (a : Act). AnswersOne b.log b.clock a c.in_ok-act.report c.add_one.new.self (Err c.in-Err.fault)) told.0 c.in-Err.ensures in
-    let h = subst (λ x. AnswersOne b.log b.clock (Completed w.number w.refused.items) x c.add_one.new.self (Err c.in-Err.fault)) told.1 g in
+    let h = subst (λ x. AnswersOne b.log b.clock (Completed w.number w.refused) x c.add_one.new.self (Err c.in-Err.fault)) told.1 g in
     let r = not-completed b.clock b.slot_now b.requests b.structures b.log w ws waits fit only c.self.invariant.board t c.in-Err.fault c.add_one.new.self h in
     subst (λ (x : Core). Answers x Work (core_of b.clock b.slot_now b.requests b.structures c.add_one.new.self) (Err c.in-Err.fault)) c.self.view_is r.0

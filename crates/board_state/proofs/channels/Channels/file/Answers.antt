@@ -27,7 +27,7 @@ returns c =
     let some : channel_at es c.args.param ≡ Some c.in-Some.channel.now = sym c.get_mut.ensures.value ∙ ap option_copied_mut c.in-Some.is in
     let fits : FitsSigned w128 c.args.value = search rules in
     let new : c.file.new.self ≡ filed_channel c.args.slot c.args.value c.in-Some.channel.now =
-        c.file.ensures ∙ ap (λ v. filed_channel c.args.slot v c.in-Some.channel.now) (to_z-of_z w128 c.args.value fits) in
+    c.file.ensures ∙ ap (λ v. filed_channel c.args.slot v c.in-Some.channel.now) (to_z-of_z w128 c.args.value fits) in
     (c.get_mut.follows.holds c.file.new.self).0
     ∙ ap (set_value (λ k. c.args.param == k) es) new
     ∙ changed-in-place c.args.param (filed_channel c.args.slot c.args.value) es c.in-Some.channel.now c.get_mut.ensures.unique some

@@ -14,3 +14,4 @@ pub mod ChangeLemmas
 pub mod SampleLemmas
 pub mod FilingLemmas
 pub mod HeldLemmas
+pub mod QuietLemmas

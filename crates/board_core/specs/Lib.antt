@@ -5,3 +5,4 @@ pub mod Causes
 pub mod Effects
 pub mod Planned
 pub mod Worked
+pub mod Reporting

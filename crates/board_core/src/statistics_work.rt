@@ -1,9 +1,14 @@
 //! The statistics: why a change is refused, what it leaves, and the reports on them.
+ghost use Rattle.std.specs.Prelude.{◌≡◌, ◌≤◌, length, IfOk};
+ghost use Rattle.std.specs.List.{All, AllByRecursion};
+ghost use Rattle.statistics.specs.Summaries.{IsSampleValue};
 ghost use Rattle.pus_messages.specs.Instructions.{on_statistics};
 ghost use Rattle.board_steps.specs.Steps.{Answers};
 ghost use Rattle.board_steps.specs.declared.event.Event.TheVariants.{Work};
 ghost use Rattle.board_state.specs.OneByOne.{statistics_change_of};
+ghost use Rattle.board_state.specs.Statistics.{Changes, IsTimely};
 ghost use Rattle.board_core.specs.Effects.{IsEffectOf, IsStatisticsOfGrammar, IsToCarry};
+ghost use Rattle.board_core.specs.Reporting.{refusal_held, FilesAll, HasAtMost, IsStatisticsBody, IsDefinitionsBody};
 ghost use Rattle.board_core.specs.declared.effect.Effect.TheVariants as effect;
 
 use crate::board::BoardCore;
@@ -50,7 +55,9 @@ impl BoardCore {
 }
 
 /// Why a change of the statistics is refused, if it is.
-fn statistics_refusal(members: &Members, change: StatisticsChange) -> Option<Refusal> {
+fn statistics_refusal(members: &Members, change: StatisticsChange) -> Option<Refusal>
+    ensures { result ≡ refusal_held members.now.members (statistics_change_of change) }
+{
     match change {
         StatisticsChange::Add(id) => {
             if members.has(id) || members.len() < MOST_MEMBERS {
@@ -77,18 +84,20 @@ fn changed_members(
     change: StatisticsChange,
     last_tag: u64,
     next_slot: u64,
-) -> Result<Members, Memory> {
-    let mut members = members.copy(alloc)?;
+) -> Result<Members, Memory>
+    ensures { IfOk result (Changes (statistics_change_of change) last_tag next_slot members.now) }
+{
+    let mut changed = members.copy(alloc)?;
     match change {
-        StatisticsChange::Report(true) | StatisticsChange::Reset => members.reset(last_tag),
+        StatisticsChange::Report(true) | StatisticsChange::Reset => changed.reset(last_tag),
         StatisticsChange::Report(false) | StatisticsChange::ShowDefinitions => {}
-        StatisticsChange::Enable(interval) => members.enable(interval, next_slot),
-        StatisticsChange::Disable => members.disable(),
-        StatisticsChange::Add(id) => members.add(id)?,
-        StatisticsChange::Delete(id) => members.delete(id),
-        StatisticsChange::DeleteAll => members.delete_all(),
+        StatisticsChange::Enable(interval) => changed.enable(interval, next_slot),
+        StatisticsChange::Disable => changed.disable(),
+        StatisticsChange::Add(id) => changed.add(id)?,
+        StatisticsChange::Delete(id) => changed.delete(id),
+        StatisticsChange::DeleteAll => changed.delete_all(),
     }
-    Ok(members)
+    Ok(changed)
 }
 
 /// The statistics with the samples of settable parameters in a slot that closes.
@@ -97,12 +106,17 @@ pub(crate) fn closed_members(
     members: &Members,
     slot: u64,
     settings: &[Setting],
-) -> Result<Members, Memory> {
-    let mut members = members.copy(alloc)?;
+) -> Result<Members, Memory>
+    requires values { All (λ x. IsSampleValue x.value) settings.now }
+    requires few { length settings.now ≤ 512 }
+    requires room { AllByRecursion (HasAtMost 1048576) members.now.members }
+    ensures { IfOk result (FilesAll slot settings.now members.now) }
+{
+    let mut closed = members.copy(alloc)?;
     for setting in settings {
-        members.file(setting.param, slot, setting.value);
+        closed.file(setting.param, slot, setting.value);
     }
-    Ok(members)
+    Ok(closed)
 }
 
 /// The report of the statistics at this tag.
@@ -111,7 +125,10 @@ pub(crate) fn statistics_report(
     tailoring: &Tailoring,
     members: &Members,
     tag: u64,
-) -> Result<ReportBody, Memory> {
+) -> Result<ReportBody, Memory>
+    requires { All (IsTimely tailoring.now) members.now.members }
+    ensures { IfOk result (IsStatisticsBody tailoring.now members.now tag) }
+{
     let report = members.report(alloc, tailoring, tag)?;
     Ok(ReportBody::Stat(Report04::Statistics(report)))
 }
@@ -120,7 +137,9 @@ pub(crate) fn statistics_report(
 pub(crate) fn definitions_report(
     alloc: Global,
     members: &Members,
-) -> Result<ReportBody, Memory> {
+) -> Result<ReportBody, Memory>
+    ensures { IfOk result (IsDefinitionsBody members.now) }
+{
     let params = members.params(alloc)?;
     let (enabled, interval) = (members.is_enabled(), members.interval());
     Ok(ReportBody::Stat(Report04::Definitions(

@@ -65,9 +65,11 @@ counted-done (w ∷ ws) =
 
 pub counted-refused : (ws : List Running) → IsCountedFirst false ws (first_refused (next_refused ws) ws)
 counted-refused [] = refl
-counted-refused (w ∷ ws) =
-    (record w { executed = w.executed + 1; refused = w.refused ++ (w.executed + 1) ∷ [] }, refl,
-    record { number = refl; id = refl; request = refl; started = refl; executed_is = refl; refused_are = refl })
+counted-refused (w ∷ ws) = (
+  record w { executed = w.executed + 1; refused = w.refused ++ (w.executed + 1) ∷ [] },
+  refl,
+  record { number = refl; id = refl; request = refl; started = refl; executed_is = refl; refused_are = refl },
+)
 
 module _ (clock slot : ℕ) (rq : RequestsHeld) (held : List (Key × Held)) (l : LogParts) (e : Effect) (d : Draft) (t : IsToCarry (core_of clock slot rq held l) e d) where
   -- the instruction that was done

@@ -13,5 +13,7 @@ mod WorkingLemmas
 mod ExecutedLemmas
 mod CarriedLemmas
 mod ChangeLemmas
+mod GivenLemmas
+mod BeginLemmas
 mod FoundLemmas
 mod FinishedLemmas

@@ -114,11 +114,14 @@ module _ (clock slot : ℕ) (rq : RequestsHeld) (held : List (Key × Held)) (l :
         slot_now = refl;
         one_shots = λ key. refl;
         moments = subst (λ (c : Core). AreNext (session c) c.clock slot l.moments (planned (core_of clock slot rq held l) (Uplink packet)) (m ∷ l.moments)) (sym core-is)
-            (subst (λ xs. AreNext (handled_session l rq k packet) clock slot l.moments xs (m ∷ l.moments)) (sym plans-are)
-            (m, record {
-              tag = added.tag;
-              follows = (added.act_is ∙ is, subst (Carries (handled_session l rq k packet) l.moments m) is carries);
-              header = next-header l.tailoring l.moments m body added.packet;
-              octets = added.octets;
-            }, refl));
+            (subst (λ xs. AreNext (handled_session l rq k packet) clock slot l.moments xs (m ∷ l.moments)) (sym plans-are) (
+              m,
+              record {
+                tag = added.tag;
+                follows = (added.act_is ∙ is, subst (Carries (handled_session l rq k packet) l.moments m) is carries);
+                header = next-header l.tailoring l.moments m body added.packet;
+                octets = added.octets;
+              },
+              refl,
+            ));
       }

@@ -63,7 +63,7 @@ silent-values s clock slot earlier after act channels none unfiled h v =
     let undone : done_by s m.tag m.act ≡ None = ap (done_by s m.tag) h.1.follows.0 ∙ none m.tag in
     subst (λ ms. AreValues s ms channels) (sym h.2)
     (values-still s m earlier channels
-        (is-valueless s m (subst IsNoFiling (sym h.1.follows.0) unfiled) (subst (λ (o : Option Done). IfSome o (λ d. SetsNone d.instruction)) (sym undone) tt)) v)
+    (is-valueless s m (subst IsNoFiling (sym h.1.follows.0) unfiled) (subst (λ (o : Option Done). IfSome o (λ d. SetsNone d.instruction)) (sym undone) tt)) v)
 
 -- so it does with what is held of the statistics
 pub silent-statistics : (s : Session) (clock slot : ℕ) (earlier after : List Moment) (act : Act) (x : StatisticsHeld) → ((tag : ℕ) → done_by s tag act ≡ None)
@@ -120,18 +120,18 @@ uplink-holds c after packet k waiting ws held channels statistics e step board h
     let same : session after ≡ session p = ap₂ session_by step.tailoring requests in
     let agree = agree-all c.requests more c.moments h.board.stands.good.below in
     let grow : done_instructions (session p) c.moments ≡ done_instructions (session c) c.moments =
-        sym (dones-agrees (session c) (c.requests ++ more) c.moments agree) in
+    sym (dones-agrees (session c) (c.requests ++ more) c.moments agree) in
     let dones = ap (λ s. done_instructions s after.moments) same
-        ∙ silent-dones (session p) p.clock c.slot_now c.moments after.moments (handling (session p) k) (handling-silent (session p) k) next ∙ grow in
+    ∙ silent-dones (session p) p.clock c.slot_now c.moments after.moments (handling (session p) k) (handling-silent (session p) k) next ∙ grow in
     let values : AreValues (session p) c.moments channels = values-agree (session c) (c.requests ++ more) c.moments channels agree h.values in
     let told = silent-statistics (session p) p.clock c.slot_now c.moments after.moments (handling (session p) k) statistics (handling-silent (session p) k) (handling-unfiled (session p) k) next
-        (settled-agree (session c) (c.requests ++ more) c.moments agree h.settled) (statistics-agree (session c) (c.requests ++ more) c.moments statistics agree h.statistics) in
+    (settled-agree (session c) (c.requests ++ more) c.moments agree h.settled) (statistics-agree (session c) (c.requests ++ more) c.moments statistics agree h.statistics) in
     record {
       board = board;
       structures = same-structures c after held step.tailoring dones h.structures;
       values = subst (λ s. AreValues s after.moments channels) (sym same)
           (silent-values (session p) p.clock c.slot_now c.moments after.moments (handling (session p) k) channels (handling-silent (session p) k)
-              (handling-unfiled (session p) k) next values);
+          (handling-unfiled (session p) k) next values);
       statistics = subst (λ s. AreStatistics s after.moments statistics) (sym same) told.0;
       settled = subst (λ s. IsSettled s after.moments) (sym same) told.1;
     }

@@ -13,6 +13,7 @@ use Rattle.report_structures.specs.Changes.{IsGrammarChange}
 use Rattle.st03_grammar.specs.Instructions.{StructureChange, create, append, set_interval, plain}
 use Rattle.pus_messages.specs.Instructions.{Instruction, on_structure, on_statistics, report_values, set_values, instructions}
 use Rattle.report_structures.specs.Effects.{effect}
+use Rattle.report_structures.specs.declared.refusal.Refusal.{Refusal}
 use Rattle.hk_world.specs.States.{refusal}
 use Rattle.board_steps.specs.Cores.{Core, session, state_of}
 use Rattle.board_steps.specs.Plans.{Topic, worked_request, structure_of, properties_of, statistics, definitions, values_of}
@@ -174,3 +175,8 @@ progress_by w number _ = if asks w.request Progress then Some (Verify (verify.St
 -- the report on the execution of an instruction, where it is due
 abbrev pub progress_of : Running → ℕ → Effect → Option ReportBody
 progress_of w number e = if nat_lt 1 (length (instructions w.request)) then progress_by w number e else None
+
+-- why an instruction is refused, if it is
+abbrev pub refusal_of : Effect → Option Refusal
+refusal_of (Refused r) = Some r
+refusal_of _ = None

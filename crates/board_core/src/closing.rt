@@ -38,8 +38,12 @@ impl BoardCore {
         if clock > greatest_tag(self.log.tailoring()) {
             return Err(BoardFault::TimeExhausted);
         }
-        let members =
-            closed_members(self.alloc, &self.members, self.slot_now, settings.as_slice())?;
+        let members = closed_members(
+            self.alloc,
+            &self.members,
+            self.slot_now,
+            settings.as_slice(),
+        )?;
         self.add_filings(settings.as_slice(), &mut draft)?;
         self.add_reports(&due, &members, &mut draft)?;
         let count = self.log.commit(draft)?;
@@ -96,12 +100,7 @@ impl BoardCore {
         Ok(())
     }
 
-    fn add_reports(
-        &self,
-        due: &Due,
-        members: &Members,
-        draft: &mut Draft,
-    ) -> Result<(), Memory> {
+    fn add_reports(&self, due: &Due, members: &Members, draft: &mut Draft) -> Result<(), Memory> {
         for key in due.keys.iter() {
             let payload = self.payload(*key)?;
             let body = ReportBody::Hk(Report03::Values(*key, payload));

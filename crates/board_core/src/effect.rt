@@ -5,7 +5,7 @@ ghost use Rattle.st20_grammar.specs.Spelling.{AreIds};
 ghost use Rattle.report_structures.specs.Changes.{IsGrammarChange};
 ghost use Rattle.pus_messages.specs.Instructions.{on_structure, on_statistics, report_values};
 ghost use Rattle.board_state.specs.OneByOne.{instruction_of, statistics_change_of};
-ghost use Rattle.board_core.specs.Effects.{IsEffectOf, IsOfGrammar, IsStatisticsOfGrammar, is_done, effect_topics, kind_of, effect_by};
+ghost use Rattle.board_core.specs.Effects.{IsEffectOf, IsOfGrammar, IsStatisticsOfGrammar, is_done, refusal_of, effect_topics, kind_of, effect_by};
 
 use crate::board::BoardCore;
 use board_state::{Instruction, StatisticsChange};
@@ -35,6 +35,16 @@ impl Effect {
         ensures { result ≡ not (is_done self.now) }
     {
         matches!(self, Effect::Refused(_))
+    }
+
+    /// Why the instruction is refused, if it is.
+    pub(crate) fn refusal(&self) -> Option<Refusal>
+        ensures { result ≡ refusal_of self.now }
+    {
+        match self {
+            Effect::Refused(refusal) => Some(*refusal),
+            _ => None,
+        }
     }
 
     /// Whether a report is ordered.

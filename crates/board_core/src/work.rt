@@ -49,16 +49,17 @@ impl BoardCore {
 
     /// Why the one instruction of a request is refused, if it has one that is.
     fn only_refusal(&self, running: &Running) -> Result<Option<Refusal>, Memory>
-        requires { IsUnbegun self.now running.now }
+        requires unbegun { IsUnbegun self.now running.now }
+        requires few { length (instructions running.now.request) ≤ 255 }
         ensures { IfOk result (IsToBegin self.now) }
     {
+        // A law: it does nothing.
+        requests_are_spelled();
         if running.has_several() {
             return Ok(None);
         }
-        match self.effect_of(running, 1)? {
-            Effect::Refused(refusal) => Ok(Some(refusal)),
-            _ => Ok(None),
-        }
+        let effect = self.effect_of(running, 1)?;
+        Ok(effect.refusal())
     }
 
     /// Begins the first request that waits, unless its one instruction is refused.

@@ -41,25 +41,25 @@ invariant_of-self-in-Ok c =
     let names = c.new-running.ensures.id ∙ c.packet_id.ensures ∙ ap id_of_packet c.as_slice.ensures in
     let body = c.report_if-report.ensures ∙ ap (λ (x : Request). if asks x Acceptance then Some (Verify (verify.Accepted w.id)) else None) c.new-running.ensures.request in
     let r = accepted b.clock b.slot_now b.requests b.structures b.log c.args.octets c.args.number e (subst IsFit c.tailoring.ensures c.widths-fit.ensures.fit) (c.requests_are_spelled.ensures.only b.log.tailoring) c.requires.octets
-        c.self.invariant.board c.args.request t w c.new-running.ensures.number c.new-running.ensures.not_started c.new-running.ensures.not_executed c.new-running.ensures.none_refused c.new-running.ensures.request names
-        c.report_if-report.result body c.add_one.new.self c.in-Ok.count c.in-Ok.ensures in
+    c.self.invariant.board c.args.request t w c.new-running.ensures.number c.new-running.ensures.not_started c.new-running.ensures.not_executed c.new-running.ensures.none_refused c.new-running.ensures.request names
+    c.report_if-report.result body c.add_one.new.self c.in-Ok.count c.in-Ok.ensures in
     let held : c.accept.new.self ≡ record { packets = with_request b.requests.packets c.args.number c.args.octets; waiting = b.requests.waiting ++ w ∷ [] } =
-        c.in_ok-accept.ensures.ok ∙ ap (λ n. record { packets = with_request b.requests.packets n c.args.octets; waiting = b.requests.waiting ++ w ∷ [] }) c.new-running.ensures.number in
+    c.in_ok-accept.ensures.ok ∙ ap (λ n. record { packets = with_request b.requests.packets n c.args.octets; waiting = b.requests.waiting ++ w ∷ [] }) c.new-running.ensures.number in
     subst (λ (x : RequestsHeld). IsWhole (core_of b.clock b.slot_now x b.structures c.add_one.new.self) x.waiting b.structures b.channels b.members) (sym held)
     (uplink-holds (core_of b.clock b.slot_now b.requests b.structures b.log) (core_of b.clock b.slot_now (record { packets = with_request b.requests.packets c.args.number c.args.octets; waiting = b.requests.waiting ++ w ∷ [] }) b.structures c.add_one.new.self)
-        c.args.octets c.args.number b.requests.waiting (b.requests.waiting ++ w ∷ []) b.structures b.channels b.members e r.0.3 r.1 c.self.invariant)
+    c.args.octets c.args.number b.requests.waiting (b.requests.waiting ++ w ∷ []) b.structures b.channels b.members e r.0.3 r.1 c.self.invariant)
 
 pub invariant_of-self-in-Err : goal.invariant_of-self-in-Err
 invariant_of-self-in-Err c =
     let b = c.self.inside in
     let e = subst (λ (x : Core). handled_as x c.args.octets ≡ Some c.args.number) (sym c.self.view_is) c.requires.number in
     let same = (not-now b.clock b.slot_now b.requests b.structures b.log c.args.octets c.args.number e (subst IsFit c.tailoring.ensures c.widths-fit.ensures.fit) (c.requests_are_spelled.ensures.only b.log.tailoring) c.requires.octets
-        c.self.invariant.board (Accepted c.args.number) c.report_if-report.result c.in-Err.fault c.add_one.new.self c.in-Err.ensures).1 in
+    c.self.invariant.board (Accepted c.args.number) c.report_if-report.result c.in-Err.fault c.add_one.new.self c.in-Err.ensures).1 in
     let w = c.new-running.result in
     let back : c.withdraw_accepted.new.self ≡ b.requests =
-        c.withdraw_accepted.ensures
-        ∙ ap (λ (x : RequestsHeld). record { packets = take c.next_number-next.result x.packets; waiting = take (length x.waiting - 1) x.waiting }) c.in_ok-accept.ensures.ok
-        ∙ withdrawn b.requests w.number c.args.octets w c.next_number-next.result c.next_number-next.ensures.next in
+    c.withdraw_accepted.ensures
+    ∙ ap (λ (x : RequestsHeld). record { packets = take c.next_number-next.result x.packets; waiting = take (length x.waiting - 1) x.waiting }) c.in_ok-accept.ensures.ok
+    ∙ withdrawn b.requests w.number c.args.octets w c.next_number-next.result c.next_number-next.ensures.next in
     subst (λ (x : RequestsHeld). IsWhole (core_of b.clock b.slot_now x b.structures c.add_one.new.self) x.waiting b.structures b.channels b.members) (sym back)
     (subst (λ (l : LogParts). IsWhole (core_of b.clock b.slot_now b.requests b.structures l) b.requests.waiting b.structures b.channels b.members) (sym same) c.self.invariant)
 
@@ -72,9 +72,9 @@ returns-in-Ok c =
     let names = c.new-running.ensures.id ∙ c.packet_id.ensures ∙ ap id_of_packet c.as_slice.ensures in
     let body = c.report_if-report.ensures ∙ ap (λ (x : Request). if asks x Acceptance then Some (Verify (verify.Accepted w.id)) else None) c.new-running.ensures.request in
     let r = accepted b.clock b.slot_now b.requests b.structures b.log c.args.octets c.args.number e (subst IsFit c.tailoring.ensures c.widths-fit.ensures.fit) (c.requests_are_spelled.ensures.only b.log.tailoring) c.requires.octets
-        c.self.invariant.board c.args.request t w c.new-running.ensures.number c.new-running.ensures.not_started c.new-running.ensures.not_executed c.new-running.ensures.none_refused c.new-running.ensures.request names
-        c.report_if-report.result body c.add_one.new.self c.in-Ok.count c.in-Ok.ensures in
+    c.self.invariant.board c.args.request t w c.new-running.ensures.number c.new-running.ensures.not_started c.new-running.ensures.not_executed c.new-running.ensures.none_refused c.new-running.ensures.request names
+    c.report_if-report.result body c.add_one.new.self c.in-Ok.count c.in-Ok.ensures in
     let held : c.accept.new.self ≡ record { packets = with_request b.requests.packets c.args.number c.args.octets; waiting = b.requests.waiting ++ w ∷ [] } =
-        c.in_ok-accept.ensures.ok ∙ ap (λ n. record { packets = with_request b.requests.packets n c.args.octets; waiting = b.requests.waiting ++ w ∷ [] }) c.new-running.ensures.number in
+    c.in_ok-accept.ensures.ok ∙ ap (λ n. record { packets = with_request b.requests.packets n c.args.octets; waiting = b.requests.waiting ++ w ∷ [] }) c.new-running.ensures.number in
     subst (λ (x : Core). Answers x (Uplink c.args.octets) (core_of b.clock b.slot_now c.accept.new.self b.structures c.add_one.new.self) (Ok c.in-Ok.count)) c.self.view_is
     (subst (λ (x : RequestsHeld). Answers (core_of b.clock b.slot_now b.requests b.structures b.log) (Uplink c.args.octets) (core_of b.clock b.slot_now x b.structures c.add_one.new.self) (Ok c.in-Ok.count)) (sym held) r.0)

@@ -34,10 +34,10 @@ invariant_of-self-in-Ok c =
     let t = subst (λ (x : Core). (protocol x.tailoring).request c.args.octets ≡ Err c.args.cause) (sym c.self.view_is) c.requires.cause in
     let h = subst (λ i. AnswersOne b.log b.clock (TurnedAway c.args.number) (Some (Verify (verify.Refused i c.args.cause))) c.add_one.new.self (Ok c.in-Ok.count)) (c.packet_id.ensures ∙ ap id_of_packet c.as_slice.ensures) c.in-Ok.ensures in
     let r = turned-away b.clock b.slot_now b.requests b.structures b.log c.args.octets c.args.number e (subst IsFit c.tailoring.ensures c.widths-fit.ensures.fit) (c.requests_are_spelled.ensures.only b.log.tailoring) c.requires.octets c.self.invariant.board
-        c.args.cause t c.add_one.new.self c.in-Ok.count h in
+    c.args.cause t c.add_one.new.self c.in-Ok.count h in
     subst (λ (x : RequestsHeld). IsWhole (core_of b.clock b.slot_now x b.structures c.add_one.new.self) x.waiting b.structures b.channels b.members) (sym c.in_ok-keep.ensures.ok)
     (uplink-holds (core_of b.clock b.slot_now b.requests b.structures b.log) (core_of b.clock b.slot_now (record { packets = with_request b.requests.packets c.args.number c.args.octets; waiting = b.requests.waiting }) b.structures c.add_one.new.self)
-        c.args.octets c.args.number b.requests.waiting b.requests.waiting b.structures b.channels b.members e r.0.3 r.1 c.self.invariant)
+    c.args.octets c.args.number b.requests.waiting b.requests.waiting b.structures b.channels b.members e r.0.3 r.1 c.self.invariant)
 
 pub returns-in-Ok : goal.returns-in-Ok
 returns-in-Ok c =
@@ -46,6 +46,6 @@ returns-in-Ok c =
     let t = subst (λ (x : Core). (protocol x.tailoring).request c.args.octets ≡ Err c.args.cause) (sym c.self.view_is) c.requires.cause in
     let h = subst (λ i. AnswersOne b.log b.clock (TurnedAway c.args.number) (Some (Verify (verify.Refused i c.args.cause))) c.add_one.new.self (Ok c.in-Ok.count)) (c.packet_id.ensures ∙ ap id_of_packet c.as_slice.ensures) c.in-Ok.ensures in
     let r = turned-away b.clock b.slot_now b.requests b.structures b.log c.args.octets c.args.number e (subst IsFit c.tailoring.ensures c.widths-fit.ensures.fit) (c.requests_are_spelled.ensures.only b.log.tailoring) c.requires.octets c.self.invariant.board
-        c.args.cause t c.add_one.new.self c.in-Ok.count h in
+    c.args.cause t c.add_one.new.self c.in-Ok.count h in
     subst (λ (x : Core). Answers x (Uplink c.args.octets) (core_of b.clock b.slot_now c.keep.new.self b.structures c.add_one.new.self) (Ok c.in-Ok.count)) c.self.view_is
     (subst (λ (x : RequestsHeld). Answers (core_of b.clock b.slot_now b.requests b.structures b.log) (Uplink c.args.octets) (core_of b.clock b.slot_now x b.structures c.add_one.new.self) (Ok c.in-Ok.count)) (sym c.in_ok-keep.ensures.ok) r.0)

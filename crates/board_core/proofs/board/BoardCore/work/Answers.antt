@@ -19,8 +19,8 @@ returns-in_default c =
     subst (λ (x : Core). Answers x Work x (Ok 0)) c.self.view_is
     (none-waits before (subst (AreWaiting (session before) before.moments) none c.self.invariant.board.waits) c.self.invariant.board.room)
 
-pub only_refusal-requires : goal.only_refusal-requires
-only_refusal-requires c =
+pub only_refusal-requires-unbegun : goal.only_refusal-requires-unbegun
+only_refusal-requires-unbegun c =
     let b = c.self.inside in
     let before : Core = core_of b.clock b.slot_now b.requests b.structures b.log in
     let w = c.in-Some.running.now in

@@ -11,3 +11,4 @@ pub mod ReportLemmas
 pub mod JournalLemmas
 pub mod SlotLemmas
 pub mod IntervalLemmas
+pub mod CountedLemmas

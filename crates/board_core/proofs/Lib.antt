@@ -13,6 +13,8 @@ mod WorkingLemmas
 mod ExecutedLemmas
 mod CarriedLemmas
 mod ChangeLemmas
+mod ListedLemmas
+mod ShortLemmas
 mod GivenLemmas
 mod BeginLemmas
 mod FoundLemmas

@@ -39,7 +39,7 @@ boots-more boots i b old new d e changes shots rising h =
     let none : find (λ x. key_eq x.key b.key) (take i boots) ≡ None = before-apart boots i b d e in
     let absent : held_at old b.key ≡ None = h.each b.key ∙ ap (option_map boot_held) none in
     record {
-      each = λ key. changes key ∙ go key (key_eq b.key key) refl none ∙ sym (ap (option_map boot_held) (ap (find (λ x. key_eq x.key key)) more ∙ find-append {p = λ x. key_eq x.key key} (take i boots) (b ∷ [])));
+      each = λ key. changes key ∙ go key (key_eq b.key key) refl none ∙ sym (ap (option_map boot_held) (ap (find (λ x. key_eq x.key key)) more ∙ find-append (λ x. key_eq x.key key) (take i boots) (b ∷ [])));
       none = shots absent ∙ h.none;
       rising = rising;
     }

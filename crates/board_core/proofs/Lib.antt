@@ -19,3 +19,5 @@ mod GivenLemmas
 mod BeginLemmas
 mod FoundLemmas
 mod FinishedLemmas
+mod ExecutionLemmas
+mod ToldLemmas

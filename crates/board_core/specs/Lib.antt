@@ -4,5 +4,6 @@ pub mod Boards
 pub mod Causes
 pub mod Effects
 pub mod Planned
+pub mod Execution
 pub mod Worked
 pub mod Reporting

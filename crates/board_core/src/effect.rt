@@ -1,5 +1,5 @@
 //! What an instruction does in the present state.
-ghost use Rattle.std.specs.Prelude.{◌≡◌, ◌<◌, ◌^◌, length, not, IfOk, if◌then◌else◌};
+ghost use Rattle.std.specs.Prelude.{◌≡◌, ◌+◌, ◌<◌, ◌^◌, length, IfOk};
 ghost use Rattle.st03_grammar.specs.Instructions.{change_of};
 ghost use Rattle.st20_grammar.specs.Spelling.{AreIds};
 ghost use Rattle.report_structures.specs.Changes.{IsGrammarChange};
@@ -31,10 +31,11 @@ pub(crate) enum Effect {
 }
 
 impl Effect {
-    pub(crate) fn is_refused(&self) -> bool
-        ensures { result ≡ not (is_done self.now) }
+    /// Whether the instruction is done.
+    pub(crate) fn is_done(&self) -> bool
+        ensures { result ≡ is_done self.now }
     {
-        matches!(self, Effect::Refused(_))
+        !matches!(self, Effect::Refused(_))
     }
 
     /// Why the instruction is refused, if it is.
@@ -47,9 +48,9 @@ impl Effect {
         }
     }
 
-    /// Whether a report is ordered.
-    pub(crate) fn has_report(&self) -> bool
-        ensures { length (effect_topics self.now) ≡ (if result then 1 else 0) }
+    /// How many moments its execution has: one, and one for the report that it orders.
+    pub(crate) fn moments(&self) -> u64
+        ensures { result ≡ 1 + length (effect_topics self.now) }
     {
         match self {
             Effect::ShowStructure(_, _)
@@ -57,8 +58,8 @@ impl Effect {
             | Effect::ReportValues(_)
             | Effect::ChangeStatistics(
                 StatisticsChange::Report(_) | StatisticsChange::ShowDefinitions,
-            ) => true,
-            _ => false,
+            ) => 2,
+            _ => 1,
         }
     }
 }

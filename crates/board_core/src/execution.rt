@@ -1,16 +1,21 @@
 //! The execution of an instruction.
-ghost use Rattle.std.specs.Prelude.{◌≡◌, ◌+◌, ◌/◌, ◌<◌, ◌≤◌, ◌^◌, ◌∷◌, [], max, Some, None, IfOk, if◌then◌else◌};
+ghost use Rattle.std.specs.Prelude.{◌≡◌, ◌+◌, ◌/◌, ◌<◌, ◌≤◌, ◌^◌, ◌∷◌, [], max, Some, None, length, IfOk, OnOk, if◌then◌else◌};
 ghost use Rattle.hk_base.specs.Fit as fit;
-ghost use Rattle.pus_messages.specs.Instructions.{Instruction, report_values};
+ghost use Rattle.pus_messages.specs.Instructions.{Instruction, instructions, report_values};
 ghost use Rattle.st20_grammar.specs.Spelling.{AreIds};
 ghost use Rattle.hk_world.specs.States.{refusal};
 ghost use Rattle.board_steps.specs.Cores.{state_of, next_tag};
 ghost use Rattle.board_steps.specs.Plans.{statistics, definitions, values_of, properties_of};
-ghost use Rattle.board_steps.specs.Steps.{Answers};
+ghost use Rattle.st03_grammar.specs.declared.bodies.Report03.TheVariants as hk;
+ghost use Rattle.pus_messages.specs.declared.message.ReportBody.TheVariants.{Hk};
+ghost use Rattle.board_steps.specs.Steps.{Answers, row_of};
 ghost use Rattle.board_steps.specs.declared.event.Event.TheVariants.{Work};
+ghost use Rattle.hk_world.specs.declared.moment.Moment.{Moment};
+ghost use Rattle.board_state.specs.declared.running.Running.{Running};
+ghost use Rattle.board_core.specs.Execution.{IsExecutedBy, IsFirstDrafted, AnswersFirst, IsToldAfter};
 ghost use Rattle.board_core.specs.Effects.{IsExecuting, IsEffectOf, IsOrderedBody, IsToCarry, OnlyShows, effect_topics};
 ghost use Rattle.board_core.specs.declared.effect.Effect.{Effect};
-ghost use Rattle.board_core.specs.Planned.{AnswersPlan};
+ghost use Rattle.board_core.specs.Planned.{AnswersPlan, IsPlanned};
 ghost use Rattle.board_core.specs.Worked.{IsToExecute};
 ghost use Rattle.board_core.specs.declared.effect.Effect.TheVariants as effect;
 
@@ -44,21 +49,38 @@ impl BoardCore {
 
     /// The moments of an instruction that is executed.
     fn execution(&self, running: &Running, effect: &Effect) -> Result<Draft, BoardFault>
-        requires { IsExecuting self.now running.now effect.now }
+        requires few { length (instructions running.now.request) ≤ 255 }
+        requires executing { IsExecuting self.now running.now effect.now }
         ensures { AnswersPlan self.now Work result }
     {
-        let number = running.executed + 1;
-        let count = 1 + u64::from(effect.has_report());
-        let mut draft = self.log.draft(self.clock, count)?;
-        let act = Act::Executed(running.number, number, !effect.is_refused());
-        let report = progress(running, number, effect);
-        draft.add(self.alloc, self.log.tailoring(), act, report)?;
+        let mut draft = self.executed(running, effect)?;
         self.add_ordered(effect, &mut draft)?;
         Ok(draft)
     }
 
-    /// Adds the report that an effect orders.
-    fn add_ordered(&self, effect: &Effect, draft: &mut Draft) -> Result<(), Memory> {
+    /// The first moment of an instruction that is executed.
+    fn executed(&self, running: &Running, effect: &Effect) -> Result<Draft, BoardFault>
+        requires few { length (instructions running.now.request) ≤ 255 }
+        requires executing { IsExecuting self.now running.now effect.now }
+        ensures { AnswersFirst self.now running.now effect.now result }
+    {
+        // A law, and the fitness of the tailoring: they do nothing.
+        requests_are_spelled();
+        let _fit = self.log.tailoring().widths();
+        let number = running.executed + 1;
+        let mut draft = self.log.draft(self.clock, effect.moments())?;
+        let act = Act::Executed(running.number, number, effect.is_done());
+        let report = progress(running, number, effect);
+        draft.add(self.alloc, self.log.tailoring(), act, report)?;
+        Ok(draft)
+    }
+
+    /// Adds the report that an effect orders behind the first moment.
+    fn add_ordered(&self, effect: &Effect, draft: &mut Draft) -> Result<(), Memory>
+        requires { (w : Running) × IsExecuting self.now w effect.now × IsFirstDrafted self.now w effect.now draft.old }
+        ensures { OnOk result (IsPlanned self.now Work draft.new) }
+    {
+        let _fit = self.log.tailoring().widths();
         match self.ordered_report(effect, draft.next_tag())? {
             Some(body) => draft.add(self.alloc, self.log.tailoring(), Act::Emitted, Some(body)),
             None => Ok(()),
@@ -68,7 +90,7 @@ impl BoardCore {
     /// The report that an effect orders, at this tag.
     fn ordered_report(&self, effect: &Effect, tag: u64) -> Result<Option<ReportBody>, Memory>
         requires { (x : Instruction) × IsEffectOf self.now x effect.now }
-        ensures { IfOk result (IsOrderedBody self.now tag (effect_topics effect.now)) }
+        ensures { (w : Running) (m : Moment) → IsExecuting self.now w effect.now → IsExecutedBy self.now w effect.now m → IfOk result (IsToldAfter self.now m tag (effect_topics effect.now)) }
     {
         match effect {
             Effect::ShowStructure(key, structure) => {
@@ -90,8 +112,7 @@ impl BoardCore {
     }
 
     fn properties_report(&self, key: Key, structure: &Structure) -> Result<ReportBody, Memory>
-        requires { (x : Instruction) × IsEffectOf self.now x (effect.ShowProperties key structure.now) }
-        ensures { IfOk result (λ body. IsOrderedBody self.now 0 (properties_of key ∷ []) (Some body)) }
+        ensures { IfOk result (λ body. body ≡ Hk (hk.Periodic key.kind (row_of key structure.now ∷ []))) }
     {
         let row = PeriodicRow {
             id: key.id,

@@ -47,7 +47,7 @@ find-none f a zero h = refl
 find-none f a (suc n) h = ap (λ b. cond b (Some a) (find f (range_with_len (a + 1) n))) (h a) ∙ find-none f (a + 1) n h
 
 -- a request that waits is pending
-stage-pending : (k : ℕ) (started : Bool) (executed : ℕ) (o : Option Act) → IsStage k started executed o → is_pending o ≡ true
+pub stage-pending : (k : ℕ) (started : Bool) (executed : ℕ) (o : Option Act) → IsStage k started executed o → is_pending o ≡ true
 stage-pending k false executed o h = ap is_pending h.1
 stage-pending k true zero o h = ap is_pending h
 stage-pending k true (suc n) o h = ap is_pending h.1

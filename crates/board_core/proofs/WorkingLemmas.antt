@@ -1,6 +1,7 @@
 -- How the work on the first request goes on.
 use Rattle.std.proofs.Common.{arith, ◌≡◌, ℕ, zero, suc, ◌+◌, ◌<◌, ◌≤◌, refl, sym, ◌∙◌, ap, ap₂, subst, List, [], ◌∷◌, ◌++◌, length, map, Bool, true, false, ◌==◌, ◌&&◌, ◌||◌, Option, Some, None, Ok}
 use Rattle.std.specs.Prelude.{nat_lt}
+use Rattle.std.specs.List.{AllByRecursion}
 use Rattle.std.specs.Option.{option_map_or}
 use Rattle.std.proofs.lemmas.Bool.Decides.{Decides-eqb, nat_tests}
 use Rattle.hk_base.specs.Fit.{greatest_tag}
@@ -13,14 +14,16 @@ use Rattle.board_steps.specs.Plans.{Plan, does, tells, worked_request, worked_ac
 use Rattle.board_steps.specs.Steps.{AreNext, Answers}
 use Rattle.board_steps.specs.Steps as steps
 use Rattle.board_steps.specs.Timeline.{Stands}
-use Rattle.board_state.specs.Waiting.{IsStage, AreWaiting}
+use Rattle.board_steps.specs.SlotRuns.{waiting}
+use Rattle.board_steps.proofs.CountedLemmas.{AreRising, waits, waiting-counted}
+use Rattle.board_state.specs.Waiting.{IsStage, IsRunning, AreInOrder, AreWaiting}
 use Rattle.board_core.specs.Worked.{IsToComplete, IsToExecute}
 use Rattle.board_steps.specs.declared.event.Event.TheVariants.{Work}
 use Rattle.board_state.specs.declared.running.Running.{Running}
 use Rattle.board_steps.proofs.GrammarLemmas.{RequestsOnly}
 use Rattle.board_steps.proofs.RunLemmas.{acts_of}
 use Rattle.board_steps.proofs.ValueLemmas.{request-grammatical}
-use Rattle.board_core.proofs.WorkedLemmas.{worked-first, worked-none}
+use Rattle.board_core.proofs.WorkedLemmas.{worked-first, worked-none, stage-pending}
 
 -- what is planned where a request, if there is one, is worked on
 abbrev pub work_plans : Core → Option ℕ → List Plan
@@ -86,3 +89,15 @@ module _ (c : Core) (w : Running) (ws : List Running) (only : RequestsOnly c.tai
     where
       less : (n k : ℕ) → n ≤ k → (n == k) ≡ false → n < k
       less n k le e = grind (arith, nat_tests)
+
+-- as many requests wait as are held
+pub waiting-is : (c : Core) (ws : List Running) → AreWaiting (session c) c.moments ws → waiting c ≡ length ws
+waiting-is c ws h = waiting-counted (λ w. w.number) c ws (rising ws h.order) (passing ws h.each) h.all
+  where
+    rising : (xs : List Running) → AreInOrder xs → AreRising (λ (w : Running). w.number) (waits c) xs
+    rising [] k = tt
+    rising (x ∷ xs) k = (k.0, rising xs k.1)
+
+    passing : (xs : List Running) → AllByRecursion (IsRunning (session c) c.moments) xs → AllByRecursion (λ (x : Running). (x.number < length c.requests) × (waits c x.number ≡ true)) xs
+    passing [] k = tt
+    passing (x ∷ xs) k = ((k.0.known, stage-pending x.number x.started x.executed (last_act x.number c.moments) k.0.stage), passing xs k.1)

@@ -2,6 +2,7 @@
 ghost use Rattle.std.specs.Prelude.{◌≡◌, ◌≤◌, ◌^◌, length, reverse, Ok, IfOk};
 ghost use Rattle.std.specs.Option.{option_copied};
 ghost use Rattle.board_steps.specs.Cores.{state_of, new_core};
+ghost use Rattle.board_steps.specs.SlotRuns as slot_runs;
 ghost use Rattle.board_steps.specs.Slots.{is_filed};
 ghost use Rattle.board_steps.specs.Steps.{Answers, IsEvent, MayFile};
 ghost use Rattle.board_steps.specs.declared.event.Event.TheVariants.{Clock, Filing};
@@ -100,7 +101,9 @@ impl BoardCore {
     }
 
     /// The number of accepted requests that haven't ended.
-    pub fn waiting(&self) -> u32 {
+    pub fn waiting(&self) -> u32
+        ensures { result ≡ slot_runs.waiting self.now }
+    {
         self.requests.waiting()
     }
 

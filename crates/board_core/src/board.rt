@@ -6,11 +6,12 @@ ghost use Rattle.board_steps.specs.SlotRuns as slot_runs;
 ghost use Rattle.board_steps.specs.Slots.{is_filed};
 ghost use Rattle.board_steps.specs.Steps.{Answers, IsEvent, MayFile};
 ghost use Rattle.board_steps.specs.declared.event.Event.TheVariants.{Clock, Filing};
+ghost use Rattle.board_steps.specs.Added.{IsJournal};
 ghost use Rattle.board_core.specs.Boards.{IsSmall};
 
 use crate::log::Log;
 use board_state::{Channels, Members, Requests, Structures};
-use board_steps::{BoardFault, Event, Sample};
+use board_steps::{BoardFault, Event, Sample, journals};
 use hk_base::{Key, Memory, Structure, Tailoring, Value};
 use hk_world::{Act, Journal};
 use std::alloc::Global;
@@ -110,8 +111,11 @@ impl BoardCore {
     /// What was done, the oldest moment first.
     pub fn journal(&self) -> &Journal
         ensures moments { reverse result.now ≡ self.now.moments }
-        ensures most { length self.now.moments ≤ 1048576 }
+        ensures bounds { IsJournal self.now }
     {
+        // A law, and the fitness of the tailoring: they do nothing.
+        journals();
+        let _fit = self.log.tailoring().widths();
         self.log.journal()
     }
 

@@ -12,3 +12,4 @@ pub mod JournalLemmas
 pub mod SlotLemmas
 pub mod IntervalLemmas
 pub mod CountedLemmas
+pub mod ShotLemmas

@@ -377,7 +377,7 @@ step-told-in t requests before event clock new same h =
     ∙ ap (λ n. plans_told (next_tag n before.moments) (planned before event)) same ∙ planned-told before event
 
 -- the tailoring of a session isn't changed by an event
-prepared-tailoring : (c : Core) (event : Event) → (prepared c event).tailoring ≡ c.tailoring
+pub prepared-tailoring : (c : Core) (event : Event) → (prepared c event).tailoring ≡ c.tailoring
 prepared-tailoring c (Uplink packet) = packet-tailoring c packet (handled_as c packet)
 prepared-tailoring c (Clock tag) = refl
 prepared-tailoring c Work = refl

@@ -280,7 +280,7 @@ uplink-time c packet e = go (some-or-none (planned c (Uplink packet)))
     go (inr none) = inr none
 
 -- the clock isn't changed by a packet
-packet-clock : (c : Core) (packet : List ℕ) (o : Option ℕ) → (with_packet c packet o).clock ≡ c.clock
+pub packet-clock : (c : Core) (packet : List ℕ) (o : Option ℕ) → (with_packet c packet o).clock ≡ c.clock
 packet-clock c packet None = refl
 packet-clock c packet (Some k) = refl
 

@@ -6,3 +6,4 @@ pub mod Runs
 pub mod Timeline
 pub mod SlotRuns
 pub mod Added
+pub mod OneShots

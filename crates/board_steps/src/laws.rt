@@ -19,6 +19,7 @@ ghost use Rattle.board_steps.specs.Plans.{planned};
 ghost use Rattle.board_steps.specs.Steps.{IsStep};
 ghost use Rattle.board_steps.specs.Runs.{IsMade, IsRun};
 ghost use Rattle.board_steps.specs.Timeline.{Stands, AgreeOn, on_ground};
+ghost use Rattle.board_steps.specs.OneShots.{AreShotsAhead};
 ghost use Rattle.board_steps.specs.SlotRuns.{Ahead, IsPart, IsSlot, Leads, filings, waiting};
 ghost use Rattle.board_steps.specs.Added.{Adds, IsJournal, filed_by, parameter_reports, reports_due};
 ghost use Rattle.board_steps.specs.declared.event.Event.{Event};
@@ -95,10 +96,15 @@ pub fn slots()
 
 /// A structure that is due because an interval of it ends was what it is now at each tag since that interval began: a change
 /// begins its intervals anew with the slot after. So a report that isn't a one-shot's has one definition from its first slot
-/// on. A structure that is due, by a one-shot too, has as many slots up to now as an interval has.
+/// on. A structure that is due, by a one-shot too, has as many slots up to now as an interval has. A pending one-shot is of a
+/// structure that is there, and its interval ends with the slot that runs or later: so it is spent when that slot ends. The
+/// call is the law that it stands on.
 pub fn intervals()
     ensures whole { (c : Core) → IsFit c.tailoring → Stands c → (key : Key) (x : Structure) → (state_of c).structure key ≡ Some x
         → is_due c key x ≡ true → is_spent c key x ≡ false → (tag : ℕ) → (c.slot_now + 1 - x.def.interval) * c.tailoring.widths.slot ≤ tag
         → (state_at (session c) c.moments tag).structure key ≡ Some x }
+    ensures shots { (t : TailoringParts) (events : List Event) (c : Core) → IsFit t → IsRun t events c → AreShotsAhead c }
     ensures long { (c : Core) (key : Key) (x : Structure) → is_due c key x ≡ true → x.def.interval ≤ c.slot_now + 1 }
-{}
+{
+    requests_are_spelled();
+}

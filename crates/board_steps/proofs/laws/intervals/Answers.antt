@@ -1,5 +1,6 @@
 use Rattle.board_steps.proofs.ClosingLemmas.{interval-due}
 use Rattle.board_steps.proofs.IntervalLemmas.{whole-interval}
+use Rattle.board_steps.proofs.ShotLemmas.{run-timed}
 use Rattle.board_steps.proofs.laws.intervals.Goals as goal
 
 pub returns-clause-whole : goal.returns-clause-whole
@@ -7,3 +8,6 @@ returns-clause-whole c core fit stands key x there due spent tag since = whole-i
 
 pub returns-clause-long : goal.returns-clause-long
 returns-clause-long c core key x due = interval-due core key x due
+
+pub returns-clause-shots : goal.returns-clause-shots
+returns-clause-shots c t events core fit run = (run-timed t events core fit (c.requests_are_spelled.ensures.only t) run).shots

@@ -34,11 +34,11 @@ pub record IsBoard (c : Core) (waiting : List Running) : Type 0 where
   pub room : length c.moments ≤ 1048576
 
 -- so is what is held of the structures, of the parameters and of the statistics
-pub record IsWhole (c : Core) (waiting : List Running) (held : List (Key × Held)) (channels : List (ℕ × Channel)) (statistics : StatisticsHeld) : Type 0 where
+pub record IsWhole (c : Core) (waiting : List Running) (held : List (Key × Held)) (channels : List (ℕ × Channel)) (kept : StatisticsHeld) : Type 0 where
   pub board : IsBoard c waiting
   pub structures : AreStructures c.tailoring (done_instructions (session c) c.moments) held
   pub values : AreValues (session c) c.moments channels
-  pub statistics : AreStatistics (session c) c.moments statistics
+  pub statistics : AreStatistics (session c) c.moments kept
   pub settled : IsSettled (session c) c.moments
 
 -- an event whose octets, if it has any, are no more than 2^31

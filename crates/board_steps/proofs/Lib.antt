@@ -13,3 +13,4 @@ pub mod SlotLemmas
 pub mod IntervalLemmas
 pub mod CountedLemmas
 pub mod ShotLemmas
+pub mod HeaderLemmas

@@ -7,3 +7,4 @@ pub mod Timeline
 pub mod SlotRuns
 pub mod Added
 pub mod OneShots
+pub mod Headers

@@ -1,5 +1,5 @@
 //! Laws of what boards do.
-ghost use Rattle.std.specs.Prelude.{◌≡◌, ◌+◌, ◌-◌, ◌*◌, ◌<◌, ◌≤◌, ◌++◌, ℕ, List, length, reverse, is_some, Bool, Some, true, false};
+ghost use Rattle.std.specs.Prelude.{◌≡◌, ◌+◌, ◌-◌, ◌*◌, ◌<◌, ◌≤◌, ◌++◌, ℕ, List, length, map, reverse, is_some, Bool, Some, true, false};
 ghost use Rattle.std.specs.List.{AllByRecursion, list_all};
 ghost use Rattle.hk_base.specs.TailoringParts.{TailoringParts};
 ghost use Rattle.hk_base.specs.Fit.{IsFit};
@@ -8,17 +8,20 @@ ghost use Rattle.hk_base.specs.declared.types.Definition.{Definition};
 ghost use Rattle.hk_base.specs.declared.types.Key.{Key};
 ghost use Rattle.hk_base.specs.declared.types.Place.{Place};
 ghost use Rattle.hk_base.specs.declared.types.Structure.{Structure};
+ghost use Rattle.pus_messages.specs.Messages.{protocol};
+ghost use Rattle.pus_messages.specs.declared.message.Report.{Report};
 ghost use Rattle.hk_world.specs.Timelines.{EachAfter, state_at};
 ghost use Rattle.hk_world.specs.Legal.{IsLegal};
 ghost use Rattle.hk_world.specs.Honest.{IsHonest};
 ghost use Rattle.hk_world.specs.Worlds.{MayHappen};
 ghost use Rattle.hk_world.specs.declared.moment.Moment.{Moment};
-ghost use Rattle.board_steps.specs.Cores.{Core, session, state_of, new_core};
+ghost use Rattle.board_steps.specs.Cores.{Core, session, state_of, new_core, reports_of};
 ghost use Rattle.board_steps.specs.Slots.{has_sample, is_complete, is_due, is_spent, is_filed, is_set, sample_at};
 ghost use Rattle.board_steps.specs.Plans.{planned};
 ghost use Rattle.board_steps.specs.Steps.{IsStep};
 ghost use Rattle.board_steps.specs.Runs.{IsMade, IsRun};
 ghost use Rattle.board_steps.specs.Timeline.{Stands, AgreeOn, on_ground};
+ghost use Rattle.board_steps.specs.Headers.{falling, of_type};
 ghost use Rattle.board_steps.specs.OneShots.{AreShotsAhead};
 ghost use Rattle.board_steps.specs.SlotRuns.{Ahead, IsPart, IsSlot, Leads, filings, waiting};
 ghost use Rattle.board_steps.specs.Added.{Adds, IsJournal, filed_by, parameter_reports, reports_due};
@@ -108,3 +111,13 @@ pub fn intervals()
 {
     requests_are_spelled();
 }
+
+/// The reports of a board, the newest first, are counted one by one: the sequence counts fall to 0 modulo 16,384, and so do the
+/// counters of each message type modulo 65,536 (ECSS-E-ST-70-41C, 7.4.3.1).
+pub fn headers()
+    ensures counts { (t : TailoringParts) (events : List Event) (c : Core) → IsRun t events c
+        → map (λ (r : Report). r.header.count) (reports_of (protocol t) c.moments) ≡ falling 16384 (length (reports_of (protocol t) c.moments)) }
+    ensures counters { (t : TailoringParts) (events : List Event) (c : Core) (service : ℕ) (subtype : ℕ) → IsRun t events c
+        → map (λ (r : Report). r.header.counter) (of_type service subtype (reports_of (protocol t) c.moments))
+        ≡ falling 65536 (length (of_type service subtype (reports_of (protocol t) c.moments))) }
+{}

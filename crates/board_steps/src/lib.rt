@@ -6,4 +6,4 @@ mod event;
 mod laws;
 
 pub use event::{BoardFault, Event, Sample};
-pub use laws::{boards, intervals, journals, reports_are_due, slots, steps};
+pub use laws::{boards, headers, intervals, journals, reports_are_due, slots, steps};

@@ -21,3 +21,4 @@ mod FoundLemmas
 mod FinishedLemmas
 mod ExecutionLemmas
 mod ToldLemmas
+mod StatisticsWorkLemmas

@@ -22,3 +22,4 @@ mod FinishedLemmas
 mod ExecutionLemmas
 mod ToldLemmas
 mod StatisticsWorkLemmas
+mod StatisticsCarriedLemmas

@@ -17,7 +17,7 @@ use crate::log::Draft;
 use board_state::{MOST_MEMBERS, Members, StatisticsChange};
 use board_steps::BoardFault;
 use hk_base::{Memory, Tailoring};
-use pus_messages::ReportBody;
+use pus_messages::{ReportBody, requests_are_spelled};
 use report_structures::Refusal;
 use st04_grammar::Report04;
 use st20_grammar::Setting;
@@ -44,6 +44,9 @@ impl BoardCore {
         requires { IsToCarry self.old (effect.ChangeStatistics change) draft }
         ensures { Answers self.old Work self.new result }
     {
+        // A law, and the fitness of the tailoring: they do nothing.
+        requests_are_spelled();
+        let _fit = self.log.tailoring().widths();
         let next_slot = self.next_slot();
         let last_tag = draft.last_tag;
         let members = changed_members(self.alloc, &self.members, change, last_tag, next_slot)?;

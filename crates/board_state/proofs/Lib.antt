@@ -15,3 +15,4 @@ pub mod SampleLemmas
 pub mod FilingLemmas
 pub mod HeldLemmas
 pub mod QuietLemmas
+pub mod SummaryLemmas

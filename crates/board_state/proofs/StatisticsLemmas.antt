@@ -66,7 +66,7 @@ zip-mapped P Q f (x ∷ xs) [] h = absurd h
 zip-mapped P Q f (x ∷ xs) (y ∷ ys) h = (f x y h.0, zip-mapped P Q f xs ys h.1)
 
 -- two relations one after the other, where each of the first has a property
-zip-then : {A B C : Type 0} (G : A → Type 0) (P : A → B → Type 0) (R : B → C → Type 0) (Q : A → C → Type 0) → ((a : A) (b : B) (c : C) → G a → P a b → R b c → Q a c)
+pub zip-then : {A B C : Type 0} (G : A → Type 0) (P : A → B → Type 0) (R : B → C → Type 0) (Q : A → C → Type 0) → ((a : A) (b : B) (c : C) → G a → P a b → R b c → Q a c)
     → (xs : List A) (ys : List B) (zs : List C) → AllByRecursion G xs → AllZip P xs ys → AllZip R ys zs → AllZip Q xs zs
 zip-then G P R Q f [] [] [] g h k = tt
 zip-then G P R Q f [] [] (z ∷ zs) g h k = absurd k
@@ -249,7 +249,7 @@ members-restarted first moments before tags n olds xs ys g h k =
     empty-from : (a : states.Member) → samples_above a.param (cut a) moments ≡ []
     empty-from a = samples-none a.param (cut a) moments (tags-at-most first (cut a) (at-least a) moments tags)
 
-all-true : (olds : List states.Member) → AllByRecursion (λ (a : states.Member). ⊤) olds
+pub all-true : (olds : List states.Member) → AllByRecursion (λ (a : states.Member). ⊤) olds
 all-true [] = tt
 all-true (a ∷ olds) = (tt, all-true olds)
 
@@ -342,7 +342,7 @@ statistics-disabled s m moments k old e none settled h =
       span = kept.span;
     })
 
-zip-filter : {A B : Type 0} (P : A → B → Type 0) (f : A → Bool) (g : B → Bool) → ((a : A) (b : B) → P a b → g b ≡ f a) → (xs : List A) (ys : List B) → AllZip P xs ys
+pub zip-filter : {A B : Type 0} (P : A → B → Type 0) (f : A → Bool) (g : B → Bool) → ((a : A) (b : B) → P a b → g b ≡ f a) → (xs : List A) (ys : List B) → AllZip P xs ys
     → AllZip P (filter f xs) (filter g ys)
 zip-filter P f g same [] [] h = tt
 zip-filter P f g same [] (y ∷ ys) h = absurd h

@@ -23,3 +23,4 @@ mod ExecutionLemmas
 mod ToldLemmas
 mod StatisticsWorkLemmas
 mod StatisticsCarriedLemmas
+mod StatisticsShortLemmas

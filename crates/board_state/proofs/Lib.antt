@@ -16,3 +16,5 @@ pub mod FilingLemmas
 pub mod HeldLemmas
 pub mod QuietLemmas
 pub mod SummaryLemmas
+pub mod MeanLemmas
+pub mod WritableLemmas

@@ -2,8 +2,10 @@
 use Rattle.std.proofs.Common.{arith, ◌≡◌, ℕ, zero, suc, ◌<◌, ◌≤◌, ◌+◌, ◌-◌, ◌*◌, ◌/◌, ◌^◌, refl, sym, ◌∙◌, ap, subst, List, [], ◌∷◌, length, Bool, true, false, ℤ, pos, negsuc, ◌+ℤ◌, ◌*ℤ◌, ◌≤ℤ◌}
 use Rattle.std.specs.List.{AllByRecursion}
 use Rattle.std.proofs.lemmas.Int.{ints}
-use Rattle.std.proofs.Math.Nat.{mul_assoc, mul_comm, mul-le-mul_right, mul-le-mul_left, div-le_of_le-mul, div-lt_iff_lt-mul}
+use Rattle.std.proofs.Math.Nat.{suc-mul, mul_assoc, mul_comm, mul-le-mul_right, mul-le-mul_left, div-le_of_le-mul, div-lt_iff_lt-mul}
 use Rattle.std.proofs.Math.IntN.{neg_ℤ}
+use Rattle.std.proofs.lemmas.Nat.{pow-add}
+use Rattle.hk_base.proofs.FieldLemmas.{pow_pos}
 use Rattle.hk_base.proofs.Numbers.{pow_of_octets}
 use Rattle.hk_base.specs.declared.types.Form.TheVariants.{Unsigned, Signed}
 use Rattle.body_fields.specs.Spelling.{IsInOctets}
@@ -19,8 +21,8 @@ pub sum-between : (low high : ℕ) (samples : List Sample) → AllByRecursion (�
 sum-between low high [] h = (omega (arith, ints), omega (arith, ints))
 sum-between low high (x ∷ xs) h =
     let rest = sum-between low high xs h.1 in
-    let a : length (x ∷ xs) * low ≡ low + length xs * low = refl in
-    let b : length (x ∷ xs) * high ≡ high + length xs * high = refl in
+    let a : length (x ∷ xs) * low ≡ length xs * low + low = suc-mul (length xs) low in
+    let b : length (x ∷ xs) * high ≡ length xs * high + high = suc-mul (length xs) high in
     (omega (arith, ints, a, h.0.0, rest.0), omega (arith, ints, b, h.0.1, rest.1))
 
 -- a quotient of naturals
@@ -63,7 +65,7 @@ one-less : (a b : ℕ) → 1 ≤ a → (a - 1) * b + b ≡ a * b
 one-less zero b h = absurd (omega (arith, h))
 one-less (suc a) b h =
     let e : suc a - 1 ≡ a = omega arith in
-    ap (λ k. k * b + b) e ∙ sym (succ-mul a b)
+    ap (λ k. k * b + b) e ∙ sym (suc-mul a b)
 
 wide : (octets more half : ℕ) → 2 ^ (8 * octets) ≡ 2 * half → 2 ^ (8 * (octets + more)) ≡ 2 * (half * 256 ^ more)
 wide octets more half e =

@@ -89,7 +89,7 @@ filed-fits s slot id m earlier may by = go m.act may.sample by
         named : (c : Bool) → (param == id) ≡ c → IfSome (if c then Some (sample x v) else None) (IsSampleOf (tailoring s) slot id)
         named true e =
             let same : param ≡ id = (Decides-eqb param id).0 e in
-            (b.0, f.0, subst (λ k. parameter (tailoring s) k ≡ Some f.0) same f.1.known, is-true (fits f.0 v) f.1.fit)
+            (b.0, (f.0, subst (λ k. parameter (tailoring s) k ≡ Some f.0) same f.1.known, f.1.fit))
         named false e = tt
     go (Accepted k) f b = tt
     go (TurnedAway k) f b = tt
@@ -98,10 +98,6 @@ filed-fits s slot id m earlier may by = go m.act may.sample by
     go (Executed k number flag) f b = tt
     go (Completed k refused) f b = tt
     go Emitted f b = tt
-
-    is-true : (c : Bool) → IsTrue c → c ≡ true
-    is-true true h = refl
-    is-true false h = absurd h
 
 -- the samples of a parameter in a good timeline
 pub samples-fit : (s : Session) (slot id tag : ℕ) (moments : List Moment) → EachAfter (MayHappen s) moments → AreFiledBy (tailoring s) slot moments
@@ -124,13 +120,13 @@ samples-few id tag (m ∷ ms) = go (sample_above id tag m) (samples-few id tag m
             ap length (reverse-append (x ∷ []) (filter_map (sample_above id tag) ms)) ∙ length-append (samples_above id tag ms) (x ∷ []) in
         omega (arith, e, h)
 
-zip-each : {A B : Type 0} (P : A → B → Type 0) (Q : B → Type 0) → ((a : A) (b : B) → P a b → Q b) → (xs : List A) (ys : List B) → AllZip P xs ys → AllByRecursion Q ys
+pub zip-each : {A B : Type 0} (P : A → B → Type 0) (Q : B → Type 0) → ((a : A) (b : B) → P a b → Q b) → (xs : List A) (ys : List B) → AllZip P xs ys → AllByRecursion Q ys
 zip-each P Q f [] [] h = tt
 zip-each P Q f [] (y ∷ ys) h = absurd h
 zip-each P Q f (x ∷ xs) [] h = absurd h
 zip-each P Q f (x ∷ xs) (y ∷ ys) h = (f x y h.0, zip-each P Q f xs ys h.1)
 
-all-so : (P Q : Sample → Type 0) → ((x : Sample) → P x → Q x) → (xs : List Sample) → AllByRecursion P xs → AllByRecursion Q xs
+pub all-so : (P Q : Sample → Type 0) → ((x : Sample) → P x → Q x) → (xs : List Sample) → AllByRecursion P xs → AllByRecursion Q xs
 all-so P Q f [] h = tt
 all-so P Q f (x ∷ xs) h = (f x h.0, all-so P Q f xs h.1)
 

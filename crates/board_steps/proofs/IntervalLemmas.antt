@@ -66,7 +66,7 @@ kept-by t key (report_values ids) before x e h on = h
 kept-by t key (set_values settings) before x e h on = h
 
 -- an instruction is done at the tag of its moment
-done-tag : (s : Session) (tag : ℕ) (act : Act) (d : Done) → done_by s tag act ≡ Some d → d.tag ≡ tag
+pub done-tag : (s : Session) (tag : ℕ) (act : Act) (d : Done) → done_by s tag act ≡ Some d → d.tag ≡ tag
 done-tag s tag (Executed k number true) d e = by_instruction (instruction_at s k number) e
   where
     by_instruction : (o : Option Instruction) → option_map (λ x. record { tag = tag; request = k; instruction = x }) o ≡ Some d → d.tag ≡ tag
@@ -106,7 +106,7 @@ all-before-last t test last [] some h = tt
 all-before-last t test last (d ∷ ds) some h =
     ((λ e. omega (arith, slots-rise t d.tag last.tag some h.0)), all-before-last t test last ds some h.1)
 
-begun-before : (s : Session) (t : TailoringParts) (test : Instruction → Bool) (moments : List Moment) → 0 < t.widths.slot → EachAfter (MayHappen s) moments
+pub begun-before : (s : Session) (t : TailoringParts) (test : Instruction → Bool) (moments : List Moment) → 0 < t.widths.slot → EachAfter (MayHappen s) moments
     → AllByRecursion (IsBefore t test (slot_after t test (done_instructions s moments))) (done_instructions s moments)
 begun-before s t test [] some h = tt
 begun-before s t test (m ∷ earlier) some h = by_done (done_at s m) refl (begun-before s t test earlier some h.1)
@@ -127,13 +127,13 @@ begun-before s t test (m ∷ earlier) some h = by_done (done_at s m) refl (begun
         (test d.instruction) refl rest
 
 -- all moments below a tag are kept
-all-kept : (tag : ℕ) (moments : List Moment) → AllByRecursion (λ m. m.tag < tag) moments → moments_before tag moments ≡ moments
+pub all-kept : (tag : ℕ) (moments : List Moment) → AllByRecursion (λ m. m.tag < tag) moments → moments_before tag moments ≡ moments
 all-kept tag [] h = refl
 all-kept tag (m ∷ moments) h =
     let early : nat_lt m.tag tag ≡ true = let lt = h.0 in grind (arith, nat_tests) in
     ap (λ b. cond b (m ∷ moments_before tag moments) (moments_before tag moments)) early ∙ ap (λ ms. m ∷ ms) (all-kept tag moments h.1)
 
-lower-all : (a b : ℕ) (moments : List Moment) → a < b → AllByRecursion (λ (m : Moment). m.tag < a) moments → AllByRecursion (λ (m : Moment). m.tag < b) moments
+pub lower-all : (a b : ℕ) (moments : List Moment) → a < b → AllByRecursion (λ (m : Moment). m.tag < a) moments → AllByRecursion (λ (m : Moment). m.tag < b) moments
 lower-all a b [] lt h = tt
 lower-all a b (m ∷ moments) lt h = (omega (arith, lt, h.0), lower-all a b moments lt h.1)
 

@@ -14,3 +14,4 @@ pub mod IntervalLemmas
 pub mod CountedLemmas
 pub mod ShotLemmas
 pub mod HeaderLemmas
+pub mod DefinitionLemmas

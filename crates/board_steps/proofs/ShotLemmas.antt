@@ -51,7 +51,7 @@ abbrev pub IsIdle : Session → Plan → Type 0
 IsIdle s (does act) = (tag : ℕ) → done_by s tag act ≡ None
 IsIdle s (tells topic) = ⊤
 
-next-idle : (s : Session) (clock slot : ℕ) (earlier : List Moment) (plan : Plan) (m : Moment) → IsIdle s plan → IsNext s clock slot earlier plan m → done_at s m ≡ None
+pub next-idle : (s : Session) (clock slot : ℕ) (earlier : List Moment) (plan : Plan) (m : Moment) → IsIdle s plan → IsNext s clock slot earlier plan m → done_at s m ≡ None
 next-idle s clock slot earlier (does act) m idle h = ap (done_by s m.tag) h.follows.0 ∙ idle m.tag
 next-idle s clock slot earlier (tells topic) m idle h = ap (done_by s m.tag) h.follows.0
 
@@ -63,11 +63,11 @@ idle-structure s clock slot key earlier after (plan ∷ plans) idle h =
     idle-structure s clock slot key (h.0 ∷ earlier) after plans idle.1 h.2
     ∙ still-structure s h.0 earlier key (next-idle s clock slot earlier plan h.0 idle.0 h.1)
 
-topics-idle : (s : Session) (topics : List Topic) → AllByRecursion (IsIdle s) (map tells topics)
+pub topics-idle : (s : Session) (topics : List Topic) → AllByRecursion (IsIdle s) (map tells topics)
 topics-idle s [] = tt
 topics-idle s (topic ∷ topics) = (tt, topics-idle s topics)
 
-own-idle : (s : Session) (c : Core) (ps : List Param) (topics : List Topic) → AllByRecursion (IsIdle s) (map (λ p. does (own_filing c p)) ps ++ map tells topics)
+pub own-idle : (s : Session) (c : Core) (ps : List Param) (topics : List Topic) → AllByRecursion (IsIdle s) (map (λ p. does (own_filing c p)) ps ++ map tells topics)
 own-idle s c [] topics = topics-idle s topics
 own-idle s c (p ∷ ps) topics = ((λ tag. refl), own-idle s c ps topics)
 
@@ -75,7 +75,7 @@ handling-idle : (s : Session) (b : Bool) (k tag : ℕ) → done_by s tag (if b t
 handling-idle s true k tag = refl
 handling-idle s false k tag = refl
 
-packet-idle : (s : Session) (o : Option ℕ) → AllByRecursion (IsIdle s) (option_map_or (λ k. does (handling s k) ∷ []) o [])
+pub packet-idle : (s : Session) (o : Option ℕ) → AllByRecursion (IsIdle s) (option_map_or (λ k. does (handling s k) ∷ []) o [])
 packet-idle s None = tt
 packet-idle s (Some k) = ((λ tag. handling-idle s (is_some (request_at s k)) k tag), tt)
 
@@ -103,7 +103,7 @@ unless-ok (Some r ∷ checks) z e = absurd (none-some r (sym e))
 abbrev pub IsAhead : ℕ → ℕ → Option Structure → Type 0
 IsAhead slot first state = (x : Structure) × (state ≡ Some x) × (slot < first + x.def.interval)
 
-moved : (p : Option ℕ) (n first : ℕ) → option_map (λ _. n) p ≡ Some first → n ≡ first
+pub moved : (p : Option ℕ) (n first : ℕ) → option_map (λ _. n) p ≡ Some first → n ≡ first
 moved None n first e = absurd (none-some first e)
 moved (Some f) n first e = same_Some n first e
 
@@ -287,7 +287,7 @@ acts-few s earlier k (Some (Completed j refused)) = omega arith
 acts-few s earlier k (Some Emitted) = omega arith
 acts-few s earlier k (Some (Filed id x value)) = omega arith
 
-worked-few : (c : Core) (o : Option ℕ) → length (acts_of c o) ≤ 1
+pub worked-few : (c : Core) (o : Option ℕ) → length (acts_of c o) ≤ 1
 worked-few c None = omega arith
 worked-few c (Some k) = acts-few (session c) c.moments k (last_act k c.moments)
 
@@ -303,7 +303,7 @@ unspent c key first x e h lt =
     grind (arith, nat_tests)
 
 -- the one-shots that are left where a slot ends
-left-pending : (b : Bool) (p : Option ℕ) (first : ℕ) → (if b then None else p) ≡ Some first → (p ≡ Some first) × (b ≡ false)
+pub left-pending : (b : Bool) (p : Option ℕ) (first : ℕ) → (if b then None else p) ≡ Some first → (p ≡ Some first) × (b ≡ false)
 left-pending true p first e = absurd (none-some first e)
 left-pending false p first e = (e, refl)
 

@@ -97,15 +97,17 @@ pub fn slots()
     ensures idle { (uplinks : List (List ℕ)) (before : Core) (after : Core) → IsSlot uplinks before after → waiting before ≡ 0 → waiting after ≡ 0 }
 {}
 
-/// A structure that is due because an interval of it ends was what it is now at each tag since that interval began: a change
-/// begins its intervals anew with the slot after. So a report that isn't a one-shot's has one definition from its first slot
-/// on. A structure that is due, by a one-shot too, has as many slots up to now as an interval has. A pending one-shot is of a
-/// structure that is there, and its interval ends with the slot that runs or later: so it is spent when that slot ends. The
-/// call is the law that it stands on.
+/// A structure that is due had its definition at each tag since the interval began, since a change begins its intervals anew
+/// with the slot after; without a one-shot it was enabled since then too. It has as many slots up to now as an interval has. A
+/// pending one-shot is of a structure that is there, and its interval ends with the slot that runs or later: so it is spent
+/// when that slot ends. The call is the law that it stands on.
 pub fn intervals()
     ensures whole { (c : Core) → IsFit c.tailoring → Stands c → (key : Key) (x : Structure) → (state_of c).structure key ≡ Some x
         → is_due c key x ≡ true → is_spent c key x ≡ false → (tag : ℕ) → (c.slot_now + 1 - x.def.interval) * c.tailoring.widths.slot ≤ tag
         → (state_at (session c) c.moments tag).structure key ≡ Some x }
+    ensures defined { (t : TailoringParts) (events : List Event) (c : Core) → IsFit t → IsRun t events c → (key : Key) (x : Structure)
+        → (state_of c).structure key ≡ Some x → is_due c key x ≡ true → (tag : ℕ) → (c.slot_now + 1 - x.def.interval) * c.tailoring.widths.slot ≤ tag
+        → (y : Structure) × ((state_at (session c) c.moments tag).structure key ≡ Some y) × (y.def ≡ x.def) }
     ensures shots { (t : TailoringParts) (events : List Event) (c : Core) → IsFit t → IsRun t events c → AreShotsAhead c }
     ensures long { (c : Core) (key : Key) (x : Structure) → is_due c key x ≡ true → x.def.interval ≤ c.slot_now + 1 }
 {

@@ -3,3 +3,4 @@ pub mod TrimLemmas
 pub mod ShowLemmas
 pub mod InputLemmas
 pub mod EncodeLemmas
+pub mod WholeLemmas

@@ -4,6 +4,7 @@
 mod draft;
 mod encoding;
 mod input;
+mod laws;
 mod lines;
 mod packets;
 mod showing;
@@ -11,5 +12,6 @@ mod trim;
 
 pub use encoding::{EncodeFault, encode};
 pub use input::{InputFault, input_octets};
+pub use laws::trimmed_octets_are_the_longest_record;
 pub use showing::{ShowFault, show};
 pub use trim::{PIECE_OCTETS, trimmed};

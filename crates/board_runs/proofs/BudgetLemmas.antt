@@ -159,7 +159,7 @@ next-budget t known requests n total ahead next before after Work only k sent co
     let w = b.begun comes.0 in
     record {
       begun = λ o. omega (arith, a, w);
-      ended = λ o. absurd (true_is_not_false (sym (ap (λ (x : Ahead). x.is_open) comes.3 ∙ comes.0) ∙ o));
+      ended = λ o. absurd (true_is_not_false (sym (ap (λ (x : Ahead). x.is_open) comes.1.2 ∙ comes.0) ∙ o));
     }
 next-budget t known requests n total ahead next before after (Filing x) only k sent comes made b =
     let a = (cheap t known requests n before (Filing x) ahead next only k sent comes tt).after after made in
@@ -173,7 +173,7 @@ next-budget t known requests n total ahead next before after CloseSlot only k se
     let w = b.begun comes.0 in
     let p = parted t in
     record {
-      begun = λ o. absurd (true_is_not_false (sym o ∙ ap (λ (x : Ahead). x.is_open) comes.3));
+      begun = λ o. absurd (true_is_not_false (sym o ∙ ap (λ (x : Ahead). x.is_open) comes.1.2));
       ended = λ o. omega (arith, a, w, p);
     }
 next-budget t known requests n total ahead next before after (Clock tag) only k sent comes made b = absurd comes
@@ -275,11 +275,11 @@ next-slot : (ahead next : Ahead) (before after : Core) (event : Event) (slots : 
 next-slot ahead next before after (Uplink packet) slots comes made h =
     (λ o. made.step.slot_now ∙ h comes.0, λ o. absurd (true_is_not_false (sym (ap (λ (x : Ahead). x.is_open) comes.1.1.2) ∙ o)))
 next-slot ahead next before after Work slots comes made h =
-    (λ o. made.step.slot_now ∙ h comes.0, λ o. absurd (true_is_not_false (sym (ap (λ (x : Ahead). x.is_open) comes.3 ∙ comes.0) ∙ o)))
+    (λ o. made.step.slot_now ∙ h comes.0, λ o. absurd (true_is_not_false (sym (ap (λ (x : Ahead). x.is_open) comes.1.2 ∙ comes.0) ∙ o)))
 next-slot ahead next before after (Filing x) slots comes made h =
     (λ o. made.step.slot_now ∙ h comes.0, λ o. absurd (true_is_not_false (sym (ap (λ (y : Ahead). y.is_open) comes.2 ∙ comes.0) ∙ o)))
 next-slot ahead next before after CloseSlot slots comes made h =
-    (λ o. absurd (true_is_not_false (sym o ∙ ap (λ (x : Ahead). x.is_open) comes.3)), λ o. made.step.slot_now ∙ ap (λ n. n + 1) (h comes.0))
+    (λ o. absurd (true_is_not_false (sym o ∙ ap (λ (x : Ahead). x.is_open) comes.1.2)), λ o. made.step.slot_now ∙ ap (λ n. n + 1) (h comes.0))
 next-slot ahead next before after (Clock tag) slots comes made h = absurd comes
 
 -- so it is after each event of a slot whose uplinks were sent, and what is still ahead was sent too

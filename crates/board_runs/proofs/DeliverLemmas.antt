@@ -36,7 +36,7 @@ from-in : {X : Type 0} (s : Settings) (d : Direction) (n : ℕ) (given : List (G
     → (g : Given X) × IsIn g given × (is_direction g.direction d ≡ true) × (c.packet ≡ g.packet)
 from-in s d n [] c h = absurd h
 from-in {X} s d n (g ∷ given) c h =
-    by (IsIn-append c (if is_direction g.direction d then copies s n g else []) (copies_from s d (suc n) given) h)
+    by (IsIn-append c (if is_direction g.direction d then copies s n g else []) (copies_from s d (suc n) given) h) (from-in s d (suc n) given c)
   where
     here : (b : Bool) → is_direction g.direction d ≡ b → IsIn c (if b then copies s n g else [])
         → (g' : Given X) × IsIn g' (g ∷ given) × (is_direction g'.direction d ≡ true) × (c.packet ≡ g'.packet)
@@ -44,9 +44,10 @@ from-in {X} s d n (g ∷ given) c h =
     here false e k = absurd k
 
     by : IsIn c (if is_direction g.direction d then copies s n g else []) ⊎ IsIn c (copies_from s d (suc n) given)
+        → (IsIn c (copies_from s d (suc n) given) → (g' : Given X) × IsIn g' given × (is_direction g'.direction d ≡ true) × (c.packet ≡ g'.packet))
         → (g' : Given X) × IsIn g' (g ∷ given) × (is_direction g'.direction d ≡ true) × (c.packet ≡ g'.packet)
-    by (inl k) = here (is_direction g.direction d) refl k
-    by (inr k) = let r = from-in s d (suc n) given c k in (r.0, inr r.1, r.2, r.3)
+    by (inl k) later = here (is_direction g.direction d) refl k
+    by (inr k) later = let r = later k in (r.0, inr r.1, r.2, r.3)
 
 -- what arrives was given in that direction
 pub arrivals-in : {X : Type 0} (s : Settings) (d : Direction) (slot : ℕ) (given : List (Given X)) (x : X) → IsIn x (arrivals s d slot given)
@@ -112,7 +113,8 @@ some-packet m e none = true_is_not_false (sym e ∙ ap (λ (p : List ℕ). not (
 given-in : (t : TailoringParts) (s : Script) (slots : List (List Moment)) (g : Given Moment) → IsIn g (moments_given t s slots) → is_direction g.direction Report ≡ true
     → IsIn g.packet (moments_in slots) × (g.packet.packet ≢ [])
 given-in t s [] g h d = absurd h
-given-in t s (moments ∷ earlier) g h d = by (IsIn-append g (moments_given t s earlier) (map (request_moment n) (sent_in s n) ++ map (report_moment t n) (filter has_packet moments)) h)
+given-in t s (moments ∷ earlier) g h d =
+    by (IsIn-append g (moments_given t s earlier) (map (request_moment n) (sent_in s n) ++ map (report_moment t n) (filter has_packet moments)) h) (λ k. given-in t s earlier g k d)
   where
     n : ℕ
     n = length earlier
@@ -135,9 +137,10 @@ given-in t s (moments ∷ earlier) g h d = by (IsIn-append g (moments_given t s 
     new (inr k) = reported k
 
     by : IsIn g (moments_given t s earlier) ⊎ IsIn g (map (request_moment n) (sent_in s n) ++ map (report_moment t n) (filter has_packet moments))
+        → (IsIn g (moments_given t s earlier) → IsIn g.packet (moments_in earlier) × (g.packet.packet ≢ []))
         → IsIn g.packet (onto moments (moments_in earlier)) × (g.packet.packet ≢ [])
-    by (inl k) = let r = given-in t s earlier g k d in (IsIn-onto g.packet moments (moments_in earlier) r.0, r.1)
-    by (inr k) = new (IsIn-append g (map (request_moment n) (sent_in s n)) (map (report_moment t n) (filter has_packet moments)) k)
+    by (inl k) later = let r = later k in (IsIn-onto g.packet moments (moments_in earlier) r.0, r.1)
+    by (inr k) later = new (IsIn-append g (map (request_moment n) (sent_in s n)) (map (report_moment t n) (filter has_packet moments)) k)
 
 -- each moment that is delivered was done, and has a packet
 pub delivered-in : (t : TailoringParts) (s : Script) (slots : List (List Moment)) (m : Moment) → IsIn m (moments_delivered t s slots) → IsIn m (moments_in slots) × (m.packet ≢ [])

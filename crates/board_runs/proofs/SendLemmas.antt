@@ -42,7 +42,7 @@ pub record IsNumbered (t : TailoringParts) (h : History) (packet : List ℕ) (af
   pub grown : packets_of after ≡ packets_of h ++ more
   pub next : length (packets_of after) ≡ max (length (packets_of h)) (suc header.count)
 
-left-true : (a b : Bool) → (a && b) ≡ true → a ≡ true
+pub left-true : (a b : Bool) → (a && b) ≡ true → a ≡ true
 left-true true b e = refl
 left-true false b e = absurd (true_is_not_false (sym e))
 
@@ -145,12 +145,12 @@ numbered t h packet short ok = by_header ((protocol t).command packet) refl
 -- what is known is of a short session
 pub long-false : (t : TailoringParts) (earlier : List Sending) → (history_behind t earlier).long ≡ false
 long-false t [] = refl
-long-false t (x ∷ earlier) = by_answer (sent_answer (protocol t) (history_behind t earlier) x.packet)
+long-false t (x ∷ earlier) = by_answer (sent_answer (protocol t) (history_behind t earlier) x.packet) (long-false t earlier)
   where
-    by_answer : (r : Result Bool SentFault) → (history_with_sent (protocol t) (history_behind t earlier) x.packet r).long ≡ false
-    by_answer (Ok true) = long-false t earlier
-    by_answer (Ok false) = long-false t earlier
-    by_answer (Err fault) = long-false t earlier
+    by_answer : (r : Result Bool SentFault) → (history_behind t earlier).long ≡ false → (history_with_sent (protocol t) (history_behind t earlier) x.packet r).long ≡ false
+    by_answer (Ok true) same = same
+    by_answer (Ok false) same = same
+    by_answer (Err fault) same = same
 
 -- a line that may stand behind some is that of a request
 pub line-numbered : (t : TailoringParts) (earlier : List Sending) (x : Sending) → may_follow t earlier x ≡ true
@@ -172,7 +172,7 @@ requests-grow t (x ∷ xs) earlier h =
 abbrev pub sends_of : TailoringParts → List Sending → List Step
 sends_of t xs = map (λ x. send (number_in t x.packet)) xs
 
-number-is : (t : TailoringParts) (packet : List ℕ) (header : TcHeader) → (protocol t).command packet ≡ Some header → number_in t packet ≡ header.count
+pub number-is : (t : TailoringParts) (packet : List ℕ) (header : TcHeader) → (protocol t).command packet ≡ Some header → number_in t packet ≡ header.count
 number-is t packet header e = ap (λ o. option_map_or (λ (h : TcHeader). h.count) o 0) e
 
 -- a line may be sent

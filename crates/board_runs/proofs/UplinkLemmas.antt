@@ -60,39 +60,33 @@ none-at n least (x ∷ xs) lt h =
 -- the lines of slots below the next one are those below this one, and behind them those of this one
 pub sent-next : (n least : ℕ) (xs : List Sending) → AreRising least xs → sent_below (suc n) xs ≡ sent_below n xs ++ sent_at n xs
 sent-next n least [] h = refl
-sent-next n least (x ∷ xs) h = by (nat_lt x.slot n) refl (x.slot == n) refl (nat_lt x.slot (suc n)) refl
+sent-next n least (x ∷ xs) h = by (sent-next n x.slot xs h.1) (nat_lt x.slot n) refl (x.slot == n) refl (nat_lt x.slot (suc n)) refl
   where
-    later : sent_below (suc n) xs ≡ sent_below n xs ++ sent_at n xs
-    later = sent-next n x.slot xs h.1
-
-    by : (a : Bool) → nat_lt x.slot n ≡ a → (b : Bool) → (x.slot == n) ≡ b → (c : Bool) → nat_lt x.slot (suc n) ≡ c
+    by : sent_below (suc n) xs ≡ sent_below n xs ++ sent_at n xs → (a : Bool) → nat_lt x.slot n ≡ a → (b : Bool) → (x.slot == n) ≡ b → (c : Bool) → nat_lt x.slot (suc n) ≡ c
         → (if c then x ∷ sent_below (suc n) xs else sent_below (suc n) xs) ≡ (if a then x ∷ sent_below n xs else sent_below n xs) ++ (if b then x ∷ sent_at n xs else sent_at n xs)
-    by true e false f true g = ap (λ ys. x ∷ ys) later
-    by false e true f true g =
+    by later true e false f true g = ap (λ ys. x ∷ ys) later
+    by later false e true f true g =
         let none : sent_below n xs ≡ [] = none-below n x.slot xs (grind (arith, nat_tests)) h.1 in
         ap (λ ys. x ∷ ys) (later ∙ ap (λ ys. ys ++ sent_at n xs) none) ∙ ap (λ ys. ys ++ (x ∷ sent_at n xs)) (sym none)
-    by false e false f false g = later
-    by true e true f c g = absurd (grind (arith, nat_tests))
-    by true e false f false g = absurd (grind (arith, nat_tests))
-    by false e true f false g = absurd (grind (arith, nat_tests))
-    by false e false f true g = absurd (grind (arith, nat_tests))
+    by later false e false f false g = later
+    by later true e true f c g = absurd (grind (arith, nat_tests))
+    by later true e false f false g = absurd (grind (arith, nat_tests))
+    by later false e true f false g = absurd (grind (arith, nat_tests))
+    by later false e false f true g = absurd (grind (arith, nat_tests))
 
 -- all lines are those below a slot and those from it on
 pub sent-split : (n least : ℕ) (xs : List Sending) → AreRising least xs → xs ≡ sent_below n xs ++ sent_from n xs
 sent-split n least [] h = refl
-sent-split n least (x ∷ xs) h = by (nat_lt x.slot n) refl (nat_le n x.slot) refl
+sent-split n least (x ∷ xs) h = by (sent-split n x.slot xs h.1) (nat_lt x.slot n) refl (nat_le n x.slot) refl
   where
-    later : xs ≡ sent_below n xs ++ sent_from n xs
-    later = sent-split n x.slot xs h.1
-
-    by : (a : Bool) → nat_lt x.slot n ≡ a → (b : Bool) → nat_le n x.slot ≡ b
+    by : xs ≡ sent_below n xs ++ sent_from n xs → (a : Bool) → nat_lt x.slot n ≡ a → (b : Bool) → nat_le n x.slot ≡ b
         → x ∷ xs ≡ (if a then x ∷ sent_below n xs else sent_below n xs) ++ (if b then x ∷ sent_from n xs else sent_from n xs)
-    by true e false f = ap (λ ys. x ∷ ys) later
-    by false e true f =
+    by later true e false f = ap (λ ys. x ∷ ys) later
+    by later false e true f =
         let none : sent_below n xs ≡ [] = none-below n x.slot xs (grind (arith, nat_tests)) h.1 in
         ap (λ ys. x ∷ ys) (later ∙ ap (λ ys. ys ++ sent_from n xs) none) ∙ ap (λ ys. ys ++ (x ∷ sent_from n xs)) (sym none)
-    by true e true f = absurd (grind (arith, nat_tests))
-    by false e false f = absurd (grind (arith, nat_tests))
+    by later true e true f = absurd (grind (arith, nat_tests))
+    by later false e false f = absurd (grind (arith, nat_tests))
 
 -- a first part of lines that may be sent may be sent, and the rest behind it
 pub sent-parts : (t : TailoringParts) (earlier xs ys : List Sending) → AreSent t earlier (xs ++ ys) → AreSent t earlier xs × AreSent t (onto xs earlier) ys
@@ -143,7 +137,8 @@ requests-in s slot n g lt h =
 given-sent : (t : TailoringParts) (s : Script) (slots : List (List Moment)) (g : Given (List ℕ)) → IsIn g (given_in t s slots) → is_direction g.direction Request ≡ true
     → IsSentBelow s (length slots) g.packet
 given-sent t s [] g h d = absurd h
-given-sent t s (moments ∷ earlier) g h d = by (IsIn-append g (given_in t s earlier) (requests_given s (length earlier) ++ reports_given t (length earlier) moments) h)
+given-sent t s (moments ∷ earlier) g h d =
+    by (IsIn-append g (given_in t s earlier) (requests_given s (length earlier) ++ reports_given t (length earlier) moments) h) (λ k. given-sent t s earlier g k d)
   where
     n : ℕ
     n = length earlier
@@ -157,9 +152,9 @@ given-sent t s (moments ∷ earlier) g h d = by (IsIn-append g (given_in t s ear
     new (inl k) = requests-in s n (suc n) g (omega arith) k
     new (inr k) = reported k
 
-    by : IsIn g (given_in t s earlier) ⊎ IsIn g (requests_given s n ++ reports_given t n moments) → IsSentBelow s (suc n) g.packet
-    by (inl k) = sent-later s n (suc n) g.packet (omega arith) (given-sent t s earlier g k d)
-    by (inr k) = new (IsIn-append g (requests_given s n) (reports_given t n moments) k)
+    by : IsIn g (given_in t s earlier) ⊎ IsIn g (requests_given s n ++ reports_given t n moments) → (IsIn g (given_in t s earlier) → IsSentBelow s n g.packet) → IsSentBelow s (suc n) g.packet
+    by (inl k) later = sent-later s n (suc n) g.packet (omega arith) (later k)
+    by (inr k) later = new (IsIn-append g (requests_given s n) (reports_given t n moments) k)
 
 -- each uplink was sent in this slot or before
 pub uplink-sent : (t : TailoringParts) (s : Script) (slots : List (List Moment)) (packet : List ℕ) → IsIn packet (uplinks t s slots) → IsSentBelow s (suc (length slots)) packet

@@ -1,8 +1,9 @@
 -- The record of a run is that of the world of its own lines.
 use Rattle.std.proofs.Common.{arith, ◌≡◌, ℕ, zero, suc, ◌+◌, ◌<◌, ◌≤◌, refl, sym, ap, ap₂, subst, ◌∙◌, List, [], ◌∷◌, ◌++◌, length, map, filter, Bool, true, false, Option, Some, None, ◌⊎◌, inl, inr, append_assoc, append-nil, length-append}
-use Rattle.std.specs.Prelude.{⊤, IfSome, option_map, find, if◌then◌else◌, slice_get, reverse, unwrap_or, ◌==◌}
+use Rattle.std.specs.Prelude.{⊤, IfSome, nat_lt, option_map, find, if◌then◌else◌, slice_get, reverse, unwrap_or, ◌==◌}
 use Rattle.std.specs.List.{AllByRecursion}
 use Rattle.std.proofs.lemmas.List.{map-append}
+use Rattle.std.proofs.lemmas.Bool.Decides.{nat_tests}
 use Rattle.hk_base.specs.Fit.{IsFit, IsFitBoot}
 use Rattle.hk_base.specs.Payload.{IsValid}
 use Rattle.hk_base.specs.Parameters.{key_eq}
@@ -250,7 +251,9 @@ none-sent t s = ap (λ xs. length (requests_behind t (onto xs []))) (sym (none s
   where
     none : (xs : List Sending) → sent_below 0 xs ≡ []
     none [] = refl
-    none (x ∷ xs) = none xs
+    none (x ∷ xs) =
+        let test : nat_lt x.slot 0 ≡ false = grind (arith, nat_tests) in
+        ap (λ b. if b then x ∷ sent_below 0 xs else sent_below 0 xs) test ∙ none xs
 
 -- a run is that of a world
 pub run-steps : (t : TailoringParts) (s : Script) (slots : List (List Moment)) (c : Core) → IsFit t → RequestsOnly t → AreSent t [] s.sendings → HasRun t s slots c
@@ -274,14 +277,12 @@ run-steps t s (moments ∷ earlier) c fit only sent h =
 boot-valid : (t : TailoringParts) (key : Key) (boots : List Boot) → AllByRecursion (IsFitBoot t) boots
     → IfSome (option_map (λ (b : Boot). b.structure) (find (λ b. key_eq b.key key) boots)) (λ x. IsValid t x.def)
 boot-valid t key [] h = tt
-boot-valid t key (b ∷ boots) h = by (key_eq b.key key)
+boot-valid t key (b ∷ boots) h = by (key_eq b.key key) (boot-valid t key boots h.1)
   where
-    later : IfSome (option_map (λ (x : Boot). x.structure) (find (λ x. key_eq x.key key) boots)) (λ x. IsValid t x.def)
-    later = boot-valid t key boots h.1
-
-    by : (c : Bool) → IfSome (option_map (λ (x : Boot). x.structure) (if c then Some b else find (λ x. key_eq x.key key) boots)) (λ x. IsValid t x.def)
-    by true = h.0.valid
-    by false = later
+    by : (c : Bool) → IfSome (option_map (λ (x : Boot). x.structure) (find (λ x. key_eq x.key key) boots)) (λ x. IsValid t x.def)
+        → IfSome (option_map (λ (x : Boot). x.structure) (if c then Some b else find (λ x. key_eq x.key key) boots)) (λ x. IsValid t x.def)
+    by true later = h.0.valid
+    by false later = later
 
 -- the steps of some entries are those of a world
 pub steps-world : (t : TailoringParts) (s : Script) (n : ℕ) (entries : List Entry) (c : Core) → IsFit t → HasSteps t s n entries c

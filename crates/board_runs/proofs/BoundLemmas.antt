@@ -254,10 +254,11 @@ room-unstopped t s c event same room b =
     let greatest : greatest_tag c.tailoring ≡ greatest_tag t = ap greatest_tag same in
     let clock : nat_lt (greatest_tag c.tailoring) (prepared c event).clock ≡ false = le-ltb (greatest_tag c.tailoring) (prepared c event).clock (omega (arith, f, g, greatest)) in
     let tags : nat_lt (greatest_tag c.tailoring + 1) (next_tag (prepared c event).clock c.moments + length (planned c event)) ≡ false =
-    le-ltb (greatest_tag c.tailoring + 1) (next_tag (prepared c event).clock c.moments + length (planned c event)) (omega (arith, f, h, greatest)) in
-    (le-ltb 1048576 (length c.moments + length (planned c event)) (omega (arith, a, d)),
-    by (nat_lt 0 (length (planned c event))) (nat_lt (greatest_tag c.tailoring + 1) (next_tag (prepared c event).clock c.moments + length (planned c event))) (is_closing event)
-    (nat_lt (greatest_tag c.tailoring) (prepared c event).clock) tags clock)
+    le-ltb (greatest_tag c.tailoring + 1) (next_tag (prepared c event).clock c.moments + length (planned c event)) (omega (arith, f, h, greatest)) in (
+      le-ltb 1048576 (length c.moments + length (planned c event)) (omega (arith, a, d)),
+      by (nat_lt 0 (length (planned c event))) (nat_lt (greatest_tag c.tailoring + 1) (next_tag (prepared c event).clock c.moments + length (planned c event))) (is_closing event)
+          (nat_lt (greatest_tag c.tailoring) (prepared c event).clock) tags clock,
+    )
   where
     by : (a b d e : Bool) → b ≡ false → e ≡ false → ((a && b) || (d && e)) ≡ false
     by true false true false f g = refl

@@ -184,15 +184,18 @@ may-send t known requests earlier x steps n all count =
     let same = number-is t x.packet n.header n.command in
     let S : Session = session_with t known requests in
     subst (λ k. MayStep S steps (send k)) (sym same)
-    ((record {
-      packet = x.packet;
-      header = n.header;
-      listed = ap (λ rs. slice_get rs n.header.count) all.1 ∙ slice_get-front (requests_behind t (x ∷ earlier)) all.0 n.header.count x.packet n.listed;
-      command = n.command;
-      apid = n.apid;
-      source = n.source;
-      count = refl;
-    }, sending (le-cases n.header.count (length (requests_behind t earlier)) n.near)))
+    ((
+      record {
+        packet = x.packet;
+        header = n.header;
+        listed = ap (λ rs. slice_get rs n.header.count) all.1 ∙ slice_get-front (requests_behind t (x ∷ earlier)) all.0 n.header.count x.packet n.listed;
+        command = n.command;
+        apid = n.apid;
+        source = n.source;
+        count = refl;
+      },
+      sending (le-cases n.header.count (length (requests_behind t earlier)) n.near),
+    ))
   where
     sending : (n.header.count < length (requests_behind t earlier)) ⊎ (n.header.count ≡ length (requests_behind t earlier)) → MaySend false steps n.header.count
     sending (inl lt) = inl (omega (arith, lt, count), tt)

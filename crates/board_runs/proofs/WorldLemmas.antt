@@ -140,9 +140,10 @@ lines-next : (t : TailoringParts) (s : Script) (n : ℕ) → AreSent t [] s.send
     → AreSent t (onto (sent_below n s.sendings) []) (sent_at n s.sendings) × (onto (sent_at n s.sendings) (onto (sent_below n s.sendings) []) ≡ onto (sent_below (suc n) s.sendings) [])
 lines-next t s n sent =
     let next = sent-next n 0 s.sendings (sent-rising t [] s.sendings sent) in
-    let whole = subst (AreSent t []) next (lines-below t s (suc n) sent).0 in
-    ((sent-parts t [] (sent_below n s.sendings) (sent_at n s.sendings) whole).1,
-    sym (ap (λ xs. onto xs []) next ∙ onto-append (sent_below n s.sendings) (sent_at n s.sendings) []))
+    let whole = subst (AreSent t []) next (lines-below t s (suc n) sent).0 in (
+      (sent-parts t [] (sent_below n s.sendings) (sent_at n s.sendings) whole).1,
+      sym (ap (λ xs. onto xs []) next ∙ onto-append (sent_below n s.sendings) (sent_at n s.sendings) []),
+    )
 
 -- each line of a slot has its packet in the list
 packets-listed : (t : TailoringParts) (s : Script) (n : ℕ) → AreSent t [] s.sendings → (x : Sending) → IsIn x (sent_at n s.sendings)
@@ -287,10 +288,13 @@ boot-valid t key (b ∷ boots) h = by (key_eq b.key key) (boot-valid t key boots
 -- the steps of some entries are those of a world
 pub steps-world : (t : TailoringParts) (s : Script) (n : ℕ) (entries : List Entry) (c : Core) → IsFit t → HasSteps t s n entries c
     → (w : World) × IsWorld w × (w.session ≡ session_of t s) × (told_entries w ≡ entries) × (moments_of w.steps ≡ c.moments)
-steps-world t s n entries c fit h =
-    (record { session = session_of t s; steps = h.steps },
-    record { session = record { fit = fit; valid = λ key. boot-valid t key t.boots fit.boots; booted = λ known. refl }; steps = h.each },
-    refl, h.entries_are, h.moments)
+steps-world t s n entries c fit h = (
+  record { session = session_of t s; steps = h.steps },
+  record { session = record { fit = fit; valid = λ key. boot-valid t key t.boots fit.boots; booted = λ known. refl }; steps = h.each },
+  refl,
+  h.entries_are,
+  h.moments,
+)
 
 -- a board's journal is within its ranges
 abbrev pub JournalsStand : Type 0
@@ -304,6 +308,7 @@ world-moments journals t s n entries c fit h =
 pub own-world : JournalsStand → ((w : World) → IsWorld w → AllByRecursion IsMoment (moments_of w.steps) → IsOwnWorld w (header_of w.session.known w.session.long) (told_entries w))
     → (t : TailoringParts) (s : Script) (n : ℕ) (entries : List Entry) (c : Core) → IsFit t → HasSteps t s n entries c
     → (w : World) × (w.session ≡ session_of t s) × (moments_of w.steps ≡ c.moments) × IsOwnWorld w (header_of s.known false) entries
+unfolding steps-world
 own-world journals told_law t s n entries c fit h =
     let r = steps-world t s n entries c fit h in
     let w : World = r.0 in
@@ -314,6 +319,7 @@ own-world journals told_law t s n entries c fit h =
 pub tells-own : JournalsStand → ((w : World) → IsWorld w → AllByRecursion IsMoment (moments_of w.steps) → FitIn most_entries 8 (told_entries w) → IsOwnRecord w (told_octets w))
     → (t : TailoringParts) (s : Script) (n : ℕ) (entries : List Entry) (c : Core) → IsFit t → FitIn most_entries 8 entries → HasSteps t s n entries c
     → TellsOwn t (record_octets (header_of s.known false) entries)
+unfolding steps-world
 tells-own journals told_law t s n entries c fit fits h =
     let r = steps-world t s n entries c fit h in
     let w : World = r.0 in

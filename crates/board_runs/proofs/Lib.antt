@@ -1,0 +1,13 @@
+pub mod ListLemmas
+pub mod SendLemmas
+pub mod DeliverLemmas
+pub mod NameLemmas
+pub mod UplinkLemmas
+pub mod WithinLemmas
+pub mod WorldLemmas
+pub mod SumLemmas
+pub mod CostLemmas
+pub mod UnfiledLemmas
+pub mod CountLemmas
+pub mod BudgetLemmas
+pub mod BoundLemmas

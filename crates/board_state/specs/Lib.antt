@@ -1,0 +1,5 @@
+pub mod Holdings
+pub mod Waiting
+pub mod OneByOne
+pub mod Values
+pub mod Statistics

@@ -1,0 +1,17 @@
+pub mod GrownLemmas
+pub mod GrammarLemmas
+pub mod TimeLemmas
+pub mod ValueLemmas
+pub mod NextLemmas
+pub mod WorkLemmas
+pub mod ClosingLemmas
+pub mod RunLemmas
+pub mod AddedLemmas
+pub mod ReportLemmas
+pub mod JournalLemmas
+pub mod SlotLemmas
+pub mod IntervalLemmas
+pub mod CountedLemmas
+pub mod ShotLemmas
+pub mod HeaderLemmas
+pub mod DefinitionLemmas

@@ -24,3 +24,4 @@ mod ToldLemmas
 mod StatisticsWorkLemmas
 mod StatisticsCarriedLemmas
 mod StatisticsShortLemmas
+mod StatisticsClosingLemmas

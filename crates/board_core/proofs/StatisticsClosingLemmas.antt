@@ -1,28 +1,44 @@
 -- The statistics at the end of a slot, and at the start.
-use Rattle.std.proofs.Common.{arith, ◌≡◌, ℕ, zero, suc, ◌<◌, ◌≤◌, ◌+◌, ◌^◌, max, refl, sym, ◌∙◌, ap, ap₂, subst, List, [], ◌∷◌, ◌++◌, length, length-append, map, Bool, true, false, ◌&&◌, ◌==◌, Option, Some, None}
-use Rattle.std.specs.Prelude.{⊤, ℤ, MatchBool}
+use Rattle.std.proofs.Common.{arith, ◌≡◌, ℕ, zero, suc, ◌<◌, ◌≤◌, ◌+◌, ◌^◌, max, refl, sym, ◌∙◌, ap, ap₂, subst, List, [], ◌∷◌, ◌++◌, length, length-append, map, ◌*◌, Bool, true, false, ◌&&◌, ◌==◌, nat_lt, Option, Some, None, pos, negsuc, FitsSigned}
+use Rattle.std.specs.Int.{w128}
+use Rattle.std.specs.Prelude.{⊤, ℤ, MatchBool, if◌then◌else◌}
+use Rattle.std.proofs.Math.Nat.{pow-le-pow_right}
+use Rattle.std.proofs.lemmas.Int.{ints}
 use Rattle.std.specs.List.{All, AllByRecursion, AllZip}
 use Rattle.std.proofs.lemmas.List.Elements.{All-from_recursion}
-use Rattle.hk_base.specs.Fit.{IsFit}
+use Rattle.hk_base.specs.Fit.{IsFit, IsFitShape}
+use Rattle.hk_base.specs.Parameters.{parameter, fits}
+use Rattle.hk_base.specs.declared.types.Form.{Form}
+use Rattle.hk_base.specs.declared.types.Form.TheVariants.{Unsigned, Signed, Enumerated, Boolean}
+use Rattle.hk_base.specs.declared.types.Key.{Key}
+use Rattle.hk_base.specs.declared.types.Param.{Param}
+use Rattle.hk_base.proofs.Numbers.{pow_of_octets}
 use Rattle.hk_base.specs.TailoringParts.{TailoringParts}
-use Rattle.body_fields.specs.Spelling.{IsInterval}
-use Rattle.statistics.specs.Summaries.{Sample, sample, AreTotals}
+use Rattle.body_fields.specs.Spelling.{IsInOctets}
+use Rattle.statistics.specs.Summaries.{Sample, sample, AreTotals, IsSampleValue}
 use Rattle.st20_grammar.specs.declared.bodies.Setting.{Setting}
 use Rattle.hk_world.specs.Timelines.{EachAfter, Session, done_by, done_at}
+use Rattle.hk_world.specs.States as states
+use Rattle.hk_world.specs.Honest.{samples_of}
 use Rattle.hk_world.specs.Worlds.{MayHappen}
 use Rattle.hk_world.specs.declared.moment.Moment.{Moment}
 use Rattle.hk_world.specs.declared.moment.Act.{Act}
 use Rattle.hk_world.specs.declared.moment.Act.TheVariants.{Emitted, Filed}
-use Rattle.body_fields.proofs.FitLemmas.{count_in_octets}
+use Rattle.body_fields.proofs.FitLemmas.{count_in_octets, fits-in_octets, parameter-fit}
 use Rattle.board_steps.specs.Cores.{Core, session, state_of, new_core, last_tag, next_tag}
 use Rattle.board_steps.specs.Plans.{Topic, does, tells}
 use Rattle.board_steps.specs.Slots.{is_statistics_due, ends_interval}
 use Rattle.board_steps.specs.Steps.{AreNext}
-use Rattle.board_state.specs.Statistics.{StatisticsHeld, AreStatistics, IsSettled, Counts, CountsAt, Files}
+use Rattle.board_state.specs.Statistics.{StatisticsHeld, AreStatistics, IsMember, IsSettled, Counts, CountsAt, Files}
 use Rattle.board_state.specs.declared.members.Member.{Member}
+use Rattle.board_state.specs.declared.channels.Channel.{Channel}
+use Rattle.board_state.specs.declared.running.Running.{Running}
+use Rattle.board_state.specs.declared.structures.Held.{Held}
 use Rattle.board_state.proofs.ChannelLemmas.{IsNoFiling}
 use Rattle.board_state.proofs.MemberLemmas.{StartsEmpty}
 use Rattle.board_state.proofs.StatisticsLemmas.{statistics-still, settled-still, statistics-filed}
+use Rattle.board_state.proofs.SummaryLemmas.{samples-few, zip-each}
+use Rattle.board_core.specs.Boards.{IsWhole}
 use Rattle.board_core.specs.Reporting.{FilesAll, HasAtMost}
 use Rattle.board_core.proofs.ExecutedLemmas.{told-keep}
 
@@ -117,3 +133,48 @@ statistics-new t fit =
       ids = record { count = (omega arith, omega arith, count_in_octets t 0 fit (omega arith)); stand = tt };
       span = ((omega arith, longest), omega (arith, longest, room));
     }, refl)
+
+-- no member has more samples than there are moments
+pub held-few : (c : Core) (waiting : List Running) (held : List (Key × Held)) (channels : List (ℕ × Channel)) (x : StatisticsHeld) → IsWhole c waiting held channels x
+    → AllByRecursion (HasAtMost 1048576) x.members
+held-few c waiting held channels x h =
+    zip-each (IsMember (state_of c) c.moments) (HasAtMost 1048576) few (state_of c).statistics.members x.members h.statistics.members
+  where
+    few : (a : states.Member) (m : Member) → IsMember (state_of c) c.moments a m → HasAtMost 1048576 m
+    few a m p =
+        record {
+          samples = samples_of (state_of c) c.moments a;
+          totals = p.1;
+          few = let le = samples-few a.param (if nat_lt (state_of c).start a.added then a.added else (state_of c).start) c.moments in let room = h.board.room in omega (arith, le, room);
+        }
+
+-- a value that fits a parameter can be a sample
+pub value-sampled : (t : TailoringParts) (id : ℕ) (q : Param) (v : ℤ) → IsFit t → parameter t id ≡ Some q → fits q v ≡ true → IsSampleValue v
+value-sampled t id q v fit found ok = go q.form v (fits-in_octets q v shape ok)
+  where
+    shape : IsFitShape q
+    shape = (parameter-fit t id q fit found).0.shape
+
+    narrow : q.octets ≤ 8
+    narrow = let octets = shape.octets in let bits = shape.bits.1 in omega (arith, octets, bits)
+
+    most : 256 ^ q.octets ≤ 256 ^ 8
+    most = let some : 0 < 256 = omega arith in pow-le-pow_right some narrow
+
+    signed : 2 ^ (8 * q.octets) ≤ 256 ^ 8
+    signed = subst (λ n. n ≤ 256 ^ 8) (pow_of_octets q.octets) most
+
+    go : (form : Form) (z : ℤ) → IsInOctets form q.octets z → IsSampleValue z
+    go Signed (pos n) h = record { least = omega (arith, ints); greatest = omega (arith, ints, h, signed) }
+    go Signed (negsuc n) h = record { least = omega (arith, ints, h, signed); greatest = omega (arith, ints) }
+    go Unsigned (pos n) h = record { least = omega (arith, ints); greatest = omega (arith, ints, h, most) }
+    go Unsigned (negsuc n) h = absurd h
+    go (Enumerated values) (pos n) h = record { least = omega (arith, ints); greatest = omega (arith, ints, h, most) }
+    go (Enumerated values) (negsuc n) h = absurd h
+    go Boolean (pos n) h = record { least = omega (arith, ints); greatest = omega (arith, ints, h, most) }
+    go Boolean (negsuc n) h = absurd h
+
+-- a sample has room in 128 bits
+pub sample-fits : (v : ℤ) → IsSampleValue v → FitsSigned w128 v
+sample-fits (pos n) h = let greatest = h.greatest in record { sfits = omega (arith, ints, greatest) }
+sample-fits (negsuc n) h = let least = h.least in record { sfits = omega (arith, ints, least) }

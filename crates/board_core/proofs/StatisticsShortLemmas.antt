@@ -165,7 +165,8 @@ pub held-timely : (c : Core) (waiting : List Running) (held : List (Key × Held)
 held-timely c waiting held channels x fit h =
     let coarse = fit.widths.coarse.1 in
     let fine = fit.widths.fine in
-    let most : 256 ^ (c.tailoring.widths.coarse + c.tailoring.widths.fine) ≤ 256 ^ 7 = let some : 0 < 256 = omega arith in pow-le-pow_right some (omega (arith, coarse, fine)) in
+    let most : 256 ^ (c.tailoring.widths.coarse + c.tailoring.widths.fine) ≤ 256 ^ 7 =
+        (let some : 0 < 256 = omega arith in let le : c.tailoring.widths.coarse + c.tailoring.widths.fine ≤ 7 = omega (arith, coarse, fine) in pow-le-pow_right some le) in
     let early = h.board.stands.early in
     All-from_recursion (IsTimely c.tailoring) x.members (members-timely (session c) c.slot_now c.moments x h.board.stands.good (omega (arith, early, most)) h.statistics)
 

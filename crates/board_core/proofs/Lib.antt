@@ -25,3 +25,5 @@ mod StatisticsWorkLemmas
 mod StatisticsCarriedLemmas
 mod StatisticsShortLemmas
 mod StatisticsClosingLemmas
+mod FileLemmas
+mod ReportedLemmas

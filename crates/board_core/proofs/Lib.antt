@@ -27,3 +27,6 @@ mod StatisticsShortLemmas
 mod StatisticsClosingLemmas
 mod FileLemmas
 mod ReportedLemmas
+mod BoundLemmas
+mod ValueReportLemmas
+mod SettingLemmas

@@ -123,22 +123,6 @@ impl BoardCore {
         Ok(ReportBody::Hk(Report03::Periodic(key.kind, rows)))
     }
 
-    fn values_report(&self, ids: &[u32]) -> Result<ReportBody, Memory>
-        requires ids { AreIds self.now.tailoring ids.now }
-        requires values { refusal self.now.tailoring (state_of self.now) (report_values ids.now) ≡ None }
-        ensures { IfOk result (λ body. IsOrderedBody self.now 0 (values_of ids.now ∷ []) (Some body)) }
-    {
-        let mut pairs = Vec::new(self.alloc);
-        for id in ids {
-            let Some(value) = self.channels.value(*id) else {
-                unreachable!();
-            };
-            pairs.push(Setting { param: *id, value })?;
-        }
-        let pairs = Items::from_vec(pairs);
-        Ok(ReportBody::Par(Report20 { pairs }))
-    }
-
     /// Adds the moments of an instruction to the journal, and does what it does.
     fn carry_out(&mut self, effect: Effect, draft: Draft) -> Result<u32, BoardFault>
         requires { IsToCarry self.old effect draft }

@@ -27,7 +27,7 @@ invariant_of-self-in-Ok c =
     (c.requests_are_spelled.ensures.only b.log.tailoring) c.self.invariant c.args.key c.args.structure t c.count_done.new.self c.create.new.self c.commit.new.self c.in-Ok.count
     (record { requests = c.count_done.ensures; log = c.in-Ok.ensures.ok; count_is = c.in-Ok.ensures.count })
     (subst (λ (x : Core). ChangesAt c.args.key (Some (new_held c.args.structure (slot_of x.tailoring (next_tag x.clock x.moments) + 1))) b.structures c.create.new.self) (sym c.self.view_is)
-    (subst (λ (n : ℕ). ChangesAt c.args.key (Some (new_held c.args.structure n)) b.structures c.create.new.self) c.next_slot.ensures.slot c.in_ok-create.ensures.ok)) c.in_ok-create.ensures.rising).1
+    (subst (λ (n : ℕ). ChangesAt c.args.key (Some (new_held c.args.structure n)) b.structures c.create.new.self) c.next_slot-first_slot.ensures.slot c.in_ok-create.ensures.ok)) c.in_ok-create.ensures.rising).1
 
 pub invariant_of-self-in-Err : goal.invariant_of-self-in-Err
 invariant_of-self-in-Err c =
@@ -36,7 +36,7 @@ invariant_of-self-in-Err c =
     let none = created-absent b.clock b.slot_now b.requests b.structures b.log b.channels b.members c.args.draft (subst IsFit c.tailoring.ensures c.widths-fit.ensures.fit)
     (c.requests_are_spelled.ensures.only b.log.tailoring) c.self.invariant c.args.key c.args.structure t in
     taken-back b.clock b.slot_now b.requests b.structures b.log b.channels b.members c.args.draft (subst IsFit c.tailoring.ensures c.widths-fit.ensures.fit)
-    (c.requests_are_spelled.ensures.only b.log.tailoring) c.self.invariant c.args.key (new_held c.args.structure c.next_slot.result) c.create.new.self c.delete.new.self c.commit.new.self none refl
+    (c.requests_are_spelled.ensures.only b.log.tailoring) c.self.invariant c.args.key (new_held c.args.structure c.next_slot-first_slot.result) c.create.new.self c.delete.new.self c.commit.new.self none refl
     c.in_ok-create.ensures.ok c.delete.ensures.changes c.delete.ensures.rising c.in_ok-create.ensures.one_shots c.delete.ensures.one_shots c.in-Err.ensures.err
 
 pub returns-in-Ok : goal.returns-in-Ok
@@ -48,4 +48,4 @@ returns-in-Ok c =
     (c.requests_are_spelled.ensures.only b.log.tailoring) c.self.invariant c.args.key c.args.structure t c.count_done.new.self c.create.new.self c.commit.new.self c.in-Ok.count
     (record { requests = c.count_done.ensures; log = c.in-Ok.ensures.ok; count_is = c.in-Ok.ensures.count })
     (subst (λ (x : Core). ChangesAt c.args.key (Some (new_held c.args.structure (slot_of x.tailoring (next_tag x.clock x.moments) + 1))) b.structures c.create.new.self) (sym c.self.view_is)
-    (subst (λ (n : ℕ). ChangesAt c.args.key (Some (new_held c.args.structure n)) b.structures c.create.new.self) c.next_slot.ensures.slot c.in_ok-create.ensures.ok)) c.in_ok-create.ensures.rising).0
+    (subst (λ (n : ℕ). ChangesAt c.args.key (Some (new_held c.args.structure n)) b.structures c.create.new.self) c.next_slot-first_slot.ensures.slot c.in_ok-create.ensures.ok)) c.in_ok-create.ensures.rising).0

@@ -28,7 +28,7 @@ invariant_of-self-2 c =
     (c.requests_are_spelled.ensures.only b.log.tailoring) c.self.invariant c.args.key t c.count_done.new.self c.order_one_shot.new.self c.commit.new.self c.in_ok-count.count
     (record { requests = c.count_done.ensures; log = c.in_ok-count.ensures.ok; count_is = c.in_ok-count.ensures.count })
     (subst (λ (x : Core). SetsAt c.args.key (with_one_shot (slot_of x.tailoring (next_tag x.clock x.moments) + 1)) b.structures c.order_one_shot.new.self) (sym c.self.view_is)
-    (subst (λ (n : ℕ). SetsAt c.args.key (with_one_shot n) b.structures c.order_one_shot.new.self) c.next_slot.ensures.slot c.order_one_shot.ensures))).1
+    (subst (λ (n : ℕ). SetsAt c.args.key (with_one_shot n) b.structures c.order_one_shot.new.self) c.next_slot-next_slot.ensures.slot c.order_one_shot.ensures.sets))).1
 
 pub returns : goal.returns
 returns c =
@@ -39,4 +39,4 @@ returns c =
     (c.requests_are_spelled.ensures.only b.log.tailoring) c.self.invariant c.args.key t c.count_done.new.self c.order_one_shot.new.self c.commit.new.self c.in_ok-count.count
     (record { requests = c.count_done.ensures; log = c.in_ok-count.ensures.ok; count_is = c.in_ok-count.ensures.count })
     (subst (λ (x : Core). SetsAt c.args.key (with_one_shot (slot_of x.tailoring (next_tag x.clock x.moments) + 1)) b.structures c.order_one_shot.new.self) (sym c.self.view_is)
-    (subst (λ (n : ℕ). SetsAt c.args.key (with_one_shot n) b.structures c.order_one_shot.new.self) c.next_slot.ensures.slot c.order_one_shot.ensures))).0
+    (subst (λ (n : ℕ). SetsAt c.args.key (with_one_shot n) b.structures c.order_one_shot.new.self) c.next_slot-next_slot.ensures.slot c.order_one_shot.ensures.sets))).0

@@ -28,7 +28,7 @@ invariant_of-self-2 c =
     (c.requests_are_spelled.ensures.only b.log.tailoring) c.self.invariant c.args.key c.args.structure c.args.begins t c.count_done.new.self c.replace.new.self c.commit.new.self c.in_ok-count.count
     (record { requests = c.count_done.ensures; log = c.in_ok-count.ensures.ok; count_is = c.in_ok-count.ensures.count })
     (subst (λ (x : Core). SetsAt c.args.key (with_structure c.args.structure (if c.args.begins then Some (slot_of x.tailoring (next_tag x.clock x.moments) + 1) else None)) b.structures c.replace.new.self) (sym c.self.view_is)
-    (subst (λ (o : Option ℕ). SetsAt c.args.key (with_structure c.args.structure o) b.structures c.replace.new.self) c.begin_slot.ensures c.replace.ensures))).1
+    (subst (λ (o : Option ℕ). SetsAt c.args.key (with_structure c.args.structure o) b.structures c.replace.new.self) c.begin_slot-begins.ensures c.replace.ensures.sets))).1
 
 pub returns : goal.returns
 returns c =
@@ -39,4 +39,4 @@ returns c =
     (c.requests_are_spelled.ensures.only b.log.tailoring) c.self.invariant c.args.key c.args.structure c.args.begins t c.count_done.new.self c.replace.new.self c.commit.new.self c.in_ok-count.count
     (record { requests = c.count_done.ensures; log = c.in_ok-count.ensures.ok; count_is = c.in_ok-count.ensures.count })
     (subst (λ (x : Core). SetsAt c.args.key (with_structure c.args.structure (if c.args.begins then Some (slot_of x.tailoring (next_tag x.clock x.moments) + 1) else None)) b.structures c.replace.new.self) (sym c.self.view_is)
-    (subst (λ (o : Option ℕ). SetsAt c.args.key (with_structure c.args.structure o) b.structures c.replace.new.self) c.begin_slot.ensures c.replace.ensures))).0
+    (subst (λ (o : Option ℕ). SetsAt c.args.key (with_structure c.args.structure o) b.structures c.replace.new.self) c.begin_slot-begins.ensures c.replace.ensures.sets))).0

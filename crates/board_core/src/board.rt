@@ -92,6 +92,7 @@ impl BoardCore {
     pub fn filed(&self, param: u32) -> bool
         ensures { result ≡ is_filed self.now param }
     {
+        let _fit = self.log.tailoring().widths();
         self.channels.is_filed(param, self.slot_now)
     }
 

@@ -1,5 +1,6 @@
 -- Reports on the statistics are short, so they can be written.
 use Rattle.std.proofs.Common.{arith, ap₂, true, false, ◌≡◌, ℕ, zero, suc, ◌+◌, ◌*◌, ◌/◌, ◌<◌, ◌≤◌, ◌^◌, refl, sym, ◌∙◌, ap, subst, List, [], ◌∷◌, ◌++◌, length, length-append, flat_map, ℤ, Bool, Option, Some, None}
+use Rattle.std.specs.Prelude.{IfOk, Result, Ok, Err}
 use Rattle.std.specs.List.{All}
 use Rattle.std.specs.Option.{option_map_or}
 use Rattle.std.proofs.Math.Nat.{pow-le-pow_right}
@@ -192,3 +193,8 @@ pub definitions-after : (c : Core) (waiting : List Running) (held : List (Key ×
 definitions-after c waiting held channels x w h m tag body fit b by k =
     let now = left-after c w (ChangeStatistics change.ShowDefinitions) h m x by refl (subst LeavesStatistics (sym h.is_effect.0) tt) b.settled b.statistics in
     definitions-told (session c) c.slot_now (m ∷ c.moments) x tag body fit now k
+
+-- what holds of an Ok holds of it still by what follows
+pub ok-mapped : {E : Type 0} (P Q : ReportBody → Type 0) → ((body : ReportBody) → P body → Q body) → (r : Result ReportBody E) → IfOk r P → IfOk r Q
+ok-mapped P Q f (Ok body) h = f body h
+ok-mapped P Q f (Err fault) h = tt

@@ -123,16 +123,18 @@ pub statistics-new : (t : TailoringParts) → IsFit t
     → AreStatistics (session (new_core t)) [] (record { members = []; enabled = false; interval = 1; first_slot = 0; start = 0 }) × IsSettled (session (new_core t)) []
 statistics-new t fit =
     let longest = fit.widths.max_interval.0.0 in
-    let room = fit.widths.max_interval.1 in
-    (record {
-      members = tt;
-      enabled = refl;
-      interval = refl;
-      start = refl;
-      first_slot = refl;
-      ids = record { count = (omega arith, omega arith, count_in_octets t 0 fit (omega arith)); stand = tt };
-      span = ((omega arith, longest), omega (arith, longest, room));
-    }, refl)
+    let room = fit.widths.max_interval.1 in (
+      record {
+        members = tt;
+        enabled = refl;
+        interval = refl;
+        start = refl;
+        first_slot = refl;
+        ids = record { count = (omega arith, omega arith, count_in_octets t 0 fit (omega arith)); stand = tt };
+        span = ((omega arith, longest), omega (arith, longest, room));
+      },
+      refl,
+    )
 
 -- no member has more samples than there are moments
 pub held-few : (c : Core) (waiting : List Running) (held : List (Key × Held)) (channels : List (ℕ × Channel)) (x : StatisticsHeld) → IsWhole c waiting held channels x

@@ -94,8 +94,23 @@ module _ (t : TailoringParts) (fit : IsFit t) where
       let l6 = length-append f g in
       let fraction = fit.widths.mean_fraction in
       let mean = value-short r.param t.widths.mean_fraction r.mean in
-      omega (arith, l1, l2, l3, l4, l5, l6, id-octets r.param, length-digits 256 4 r.count, value-octets r.param r.max, time-octets r.max_time, value-octets r.param r.min,
-      time-octets r.min_time, mean, fraction)
+      omega (
+        arith,
+        l1,
+        l2,
+        l3,
+        l4,
+        l5,
+        l6,
+        id-octets r.param,
+        length-digits 256 4 r.count,
+        value-octets r.param r.max,
+        time-octets r.max_time,
+        value-octets r.param r.min,
+        time-octets r.min_time,
+        mean,
+        fraction,
+      )
 
   rows-short : (rows : List StatRow) → length (flat_map (row_octets t) rows) ≤ 46 * length rows
   rows-short [] = omega arith
@@ -139,26 +154,39 @@ module _ (t : TailoringParts) (fit : IsFit t) where
       record {
         grammar = (span, ids);
         room = tt;
-        short = omega (arith, l1, l2, l3, flag-octets x.enabled, length-digits 256 t.widths.interval_octets x.interval, length-digits 256 t.widths.count_octets (length (params_of x.members)),
-            ids-short (params_of x.members), few, wide, long);
+        short = omega (
+          arith,
+          l1,
+          l2,
+          l3,
+          flag-octets x.enabled,
+          length-digits 256 t.widths.interval_octets x.interval,
+          length-digits 256 t.widths.count_octets (length (params_of x.members)),
+          ids-short (params_of x.members),
+          few,
+          wide,
+          long,
+        );
       }
 
 -- the report of the statistics that are held, and what it is about
 pub statistics-told : (s : Session) (slot now : ℕ) (moments : List Moment) (x : StatisticsHeld) (tag : ℕ) (body : ReportBody) → IsFit (tailoring s) → IsGood s slot moments → length moments ≤ 1048576
     → slot * (tailoring s).widths.slot ≤ greatest_tag (tailoring s) → StartsEmpty s.initial → tag ≤ greatest_tag (tailoring s) → AreStatistics s moments x → IsStatisticsBody (tailoring s) x tag body
     → IsWritable (tailoring s) body × IsAbout s now moments tag statistics body
-statistics-told s slot now moments x tag body fit good room early empty le h k =
-    (subst (IsWritable (tailoring s)) (sym k.1) (statistics-written (tailoring s) fit k.0 (report-fits s slot moments fit good room early x tag k.0 empty le h k.2)),
-    (k.0, k.1, report-honest s moments x tag k.0 h k.2))
+statistics-told s slot now moments x tag body fit good room early empty le h k = (
+  subst (IsWritable (tailoring s)) (sym k.1) (statistics-written (tailoring s) fit k.0 (report-fits s slot moments fit good room early x tag k.0 empty le h k.2)),
+  (k.0, k.1, report-honest s moments x tag k.0 h k.2),
+)
 
 -- what the statistics are taken of, and what it is about
 pub definitions-told : (s : Session) (now : ℕ) (moments : List Moment) (x : StatisticsHeld) (tag : ℕ) (body : ReportBody) → IsFit (tailoring s) → AreStatistics s moments x → IsDefinitionsBody x body
     → IsWritable (tailoring s) body × IsAbout s now moments tag definitions body
-definitions-told s now moments x tag body fit h k =
-    (subst (IsWritable (tailoring s)) (sym k) (definitions-written (tailoring s) fit x h.span h.ids),
-    k ∙ ap₂ (λ (e : Bool) (n : ℕ). Stat (told.Definitions e n (params_of x.members))) h.enabled h.interval
-    ∙ ap (λ (ids : List ℕ). Stat (told.Definitions (state_after s moments).statistics.enabled (state_after s moments).statistics.interval ids))
-    (params-told s moments (state_after s moments).statistics.members x.members h.members))
+definitions-told s now moments x tag body fit h k = (
+  subst (IsWritable (tailoring s)) (sym k) (definitions-written (tailoring s) fit x h.span h.ids),
+  k ∙ ap₂ (λ (e : Bool) (n : ℕ). Stat (told.Definitions e n (params_of x.members))) h.enabled h.interval
+      ∙ ap (λ (ids : List ℕ). Stat (told.Definitions (state_after s moments).statistics.enabled (state_after s moments).statistics.interval ids))
+      (params-told s moments (state_after s moments).statistics.members x.members h.members),
+)
 
 -- the times of what is held can be told
 pub held-timely : (c : Core) (waiting : List Running) (held : List (Key × Held)) (channels : List (ℕ × Channel)) (x : StatisticsHeld) → IsFit c.tailoring → IsWhole c waiting held channels x
@@ -167,7 +195,7 @@ held-timely c waiting held channels x fit h =
     let coarse = fit.widths.coarse.1 in
     let fine = fit.widths.fine in
     let most : 256 ^ (c.tailoring.widths.coarse + c.tailoring.widths.fine) ≤ 256 ^ 7 =
-        (let some : 0 < 256 = omega arith in let le : c.tailoring.widths.coarse + c.tailoring.widths.fine ≤ 7 = omega (arith, coarse, fine) in pow-le-pow_right some le) in
+    (let some : 0 < 256 = omega arith in let le : c.tailoring.widths.coarse + c.tailoring.widths.fine ≤ 7 = omega (arith, coarse, fine) in pow-le-pow_right some le) in
     let early = h.board.stands.early in
     All-from_recursion (IsTimely c.tailoring) x.members (members-timely (session c) c.slot_now c.moments x h.board.stands.good (omega (arith, early, most)) h.statistics)
 
@@ -182,9 +210,10 @@ pub statistics-after : (c : Core) (waiting : List Running) (held : List (Key × 
     (h : IsExecuting c w (ChangeStatistics (change.Report resets))) (m : Moment) (tag : ℕ) (body : ReportBody) → IsFit c.tailoring → IsWhole c waiting held channels x → tag ≤ greatest_tag c.tailoring
     → IsExecutedBy c w (ChangeStatistics (change.Report resets)) m → IsStatisticsBody c.tailoring x tag body → IsToldAfter c m tag (statistics ∷ []) (Some body)
 statistics-after c waiting held channels x w resets h m tag body fit b le by k =
-    let now = left-after c w (ChangeStatistics (change.Report resets)) h m x by refl (subst LeavesStatistics (sym h.is_effect.0) tt) b.settled b.statistics in
-    ((statistics-told (session c) c.slot_now c.slot_now c.moments x tag body fit b.board.stands.good b.board.room b.board.stands.early (refl, refl) le b.statistics k).0,
-    (k.0, k.1, report-honest (session c) (m ∷ c.moments) x tag k.0 now k.2))
+    let now = left-after c w (ChangeStatistics (change.Report resets)) h m x by refl (subst LeavesStatistics (sym h.is_effect.0) tt) b.settled b.statistics in (
+      (statistics-told (session c) c.slot_now c.slot_now c.moments x tag body fit b.board.stands.good b.board.room b.board.stands.early (refl, refl) le b.statistics k).0,
+      (k.0, k.1, report-honest (session c) (m ∷ c.moments) x tag k.0 now k.2),
+    )
 
 -- the report of what they are taken of
 pub definitions-after : (c : Core) (waiting : List Running) (held : List (Key × Held)) (channels : List (ℕ × Channel)) (x : StatisticsHeld) (w : Running)

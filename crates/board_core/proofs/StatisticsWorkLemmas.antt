@@ -159,7 +159,7 @@ carried-holds change.Reset s clock slot k number moments after last old new h =
 carried-holds (change.Enable n) s clock slot k number moments after last old new h =
     let m : Moment = h.next.0 in
     let is : new ≡ record old { enabled = true; interval = n; first_slot = slot_of (tailoring s) m.tag + 1 } =
-        h.changes ∙ ap (λ i. record old { enabled = true; interval = n; first_slot = slot_of (tailoring s) i + 1 }) (sym h.next.1.tag) in
+    h.changes ∙ ap (λ i. record old { enabled = true; interval = n; first_slot = slot_of (tailoring s) i + 1 }) (sym h.next.1.tag) in
     one-holds s m moments after k (st04.enable n) new h.next.2 h.done refl
     (subst (AreStatistics s (m ∷ moments)) (sym is)
     (statistics-enabled s m moments k n old h.done (unfiled-act m.act (Executed k number true) h.next.1.follows.0 tt) h.settled h.grammar h.before))
@@ -173,7 +173,7 @@ carried-holds (change.Add id) s clock slot k number moments after last old new h
     let rises = tag-rises s clock moments m h.timeline h.next.1.tag (omega (arith, e, h.fit)) in
     one-holds s m moments after k (st04.add id) new h.next.2 h.done refl
     (statistics-added s m moments k id old new h.done (unfiled-act m.act (Executed k number true) h.next.1.follows.0 tt) h.settled h.empty rises.low rises.above h.grammar h.wide
-        (added-room old.members id h.allowed) h.changes h.before)
+    (added-room old.members id h.allowed) h.changes h.before)
 carried-holds (change.Delete id) s clock slot k number moments after last old new h =
     let m : Moment = h.next.0 in
     one-holds s m moments after k (st04.delete id) new h.next.2 h.done refl

@@ -161,15 +161,10 @@ pub(crate) fn statistics_report(
 }
 
 /// The report of what the statistics are taken of.
-pub(crate) fn definitions_report(
-    alloc: Global,
-    members: &Members,
-) -> Result<ReportBody, Memory>
+fn definitions_report(alloc: Global, members: &Members) -> Result<ReportBody, Memory>
     ensures { IfOk result (IsDefinitionsBody members.now) }
 {
     let params = members.params(alloc)?;
     let (enabled, interval) = (members.is_enabled(), members.interval());
-    Ok(ReportBody::Stat(Report04::Definitions(
-        enabled, interval, params,
-    )))
+    Ok(ReportBody::Stat(Report04::Definitions(enabled, interval, params)))
 }

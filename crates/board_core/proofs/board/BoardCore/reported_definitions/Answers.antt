@@ -22,5 +22,5 @@ returns c = λ w m tag h by.
     let executed = subst (λ (x : Core). IsExecutedBy x w e m) (sym c.self.view_is) by in
     subst (λ (x : Core). IfOk c.definitions_report.result (λ body. IsToldAfter x m tag (definitions ∷ []) (Some body))) c.self.view_is
     (ok-mapped (IsDefinitionsBody b.members) (λ body. IsToldAfter core m tag (definitions ∷ []) (Some body))
-        (λ body k. definitions-after core b.requests.waiting b.structures b.channels b.members w executing m tag body fit c.self.invariant executed k)
-        c.definitions_report.result c.definitions_report.ensures)
+    (λ body k. definitions-after core b.requests.waiting b.structures b.channels b.members w executing m tag body fit c.self.invariant executed k)
+    c.definitions_report.result c.definitions_report.ensures)

@@ -34,6 +34,6 @@ returns c = λ w m resets h by.
     let executed = subst (λ (x : Core). IsExecutedBy x w e m) (sym c.self.view_is) by in
     subst (λ (x : Core). IfOk c.statistics_report.result (λ body. IsToldAfter x m c.args.tag (statistics ∷ []) (Some body))) c.self.view_is
     (ok-mapped (IsStatisticsBody c.tailoring-tailoring.result.now b.members c.args.tag) (λ body. IsToldAfter core m c.args.tag (statistics ∷ []) (Some body))
-        (λ body k. statistics-after core b.requests.waiting b.structures b.channels b.members w resets executing m c.args.tag body fit c.self.invariant le executed
-            (subst (λ (t : TailoringParts). IsStatisticsBody t b.members c.args.tag body) c.tailoring-tailoring.ensures k))
-        c.statistics_report.result c.statistics_report.ensures)
+    (λ body k. statistics-after core b.requests.waiting b.structures b.channels b.members w resets executing m c.args.tag body fit c.self.invariant le executed
+    (subst (λ (t : TailoringParts). IsStatisticsBody t b.members c.args.tag body) c.tailoring-tailoring.ensures k))
+    c.statistics_report.result c.statistics_report.ensures)

@@ -1,10 +1,13 @@
 -- What is answered where an instruction of each kind is carried out, and what is held then.
-use Rattle.std.proofs.Common.{◌≡◌, ℕ, ◌+◌, refl, sym, ◌∙◌, ap, subst, List, [], ◌∷◌, length, Bool, true, false, Option, Some, None, Ok}
-use Rattle.std.specs.Prelude.{if◌then◌else◌}
+use Rattle.std.proofs.Common.{◌≡◌, ℕ, ◌+◌, refl, sym, ◌∙◌, ap, subst, List, [], ◌∷◌, length, Bool, true, false, ◌&&◌, ◌==◌, Option, Some, None, Ok}
+use Rattle.std.specs.Prelude.{IfSome, option_map, if◌then◌else◌}
 use Rattle.std.specs.List.{cons_option}
 use Rattle.std.specs.Map.{lookup}
 use Rattle.hk_base.specs.Fit.{IsFit, slot_of}
-use Rattle.hk_base.specs.Parameters.{key_eq}
+use Rattle.hk_base.specs.Parameters.{key_eq, kind_eq}
+use Rattle.hk_base.specs.declared.types.Kind.{Kind}
+use Rattle.hk_base.specs.declared.types.Kind.TheVariants.{Housekeeping, Diagnostic}
+use Rattle.std.proofs.lemmas.Bool.{eq-eqb}
 use Rattle.hk_base.specs.declared.types.Key.{Key}
 use Rattle.hk_base.specs.declared.types.Structure.{Structure}
 use Rattle.st03_grammar.specs.Instructions.{StructureChange, plain}
@@ -19,7 +22,7 @@ use Rattle.board_steps.specs.Slots.{begins_intervals, one_shot_changed}
 use Rattle.board_steps.specs.Steps.{Answers}
 use Rattle.board_steps.specs.declared.event.Event.TheVariants.{Work}
 use Rattle.board_steps.proofs.GrammarLemmas.{RequestsOnly}
-use Rattle.board_state.specs.Holdings.{held_at, ChangesAt, SetsAt, new_held, with_one_shot, with_structure, one_shots_of, AreRisingKeys, AreStructures}
+use Rattle.board_state.specs.Holdings.{held_at, ChangesAt, SetsAt, new_held, with_one_shot, with_structure, one_shots_of, IsHeld, AreRisingKeys, AreStructures}
 use Rattle.board_state.specs.Statistics.{StatisticsHeld}
 use Rattle.board_state.specs.Waiting.{RequestsHeld, first_done, first_refused, next_refused}
 use Rattle.board_state.specs.declared.channels.Channel.{Channel}
@@ -27,17 +30,25 @@ use Rattle.board_state.specs.declared.running.Running.{Running}
 use Rattle.board_state.specs.declared.structures.Held.{Held}
 use Rattle.board_state.proofs.ChannelLemmas.{SetsNone}
 use Rattle.board_state.proofs.EffectLemmas.{sets-changes}
-use Rattle.board_state.proofs.HoldingLemmas.{IsOther, other-done}
+use Rattle.board_state.proofs.HoldingLemmas.{IsOther, keys-one, other-done}
 use Rattle.board_state.proofs.RisingLemmas.{sets-rising, pending-is}
 use Rattle.board_state.proofs.StatisticsLemmas.{LeavesStatistics}
-use Rattle.board_core.specs.Boards.{core_of, IsWhole}
-use Rattle.board_core.specs.Effects.{IsToCarry, is_done}
+use Rattle.board_core.specs.Boards.{core_of, IsBoard, IsWhole}
+use Rattle.board_core.specs.Effects.{IsToCarry, OnlyShows, is_done}
 use Rattle.board_core.specs.Logs.{LogParts, drafted, with_moments}
 use Rattle.board_core.specs.declared.effect.Effect.{Effect}
 use Rattle.board_core.specs.declared.effect.Effect.TheVariants.{Refused, Create, Delete, Replace, OrderOneShot, ShowStructure, ShowProperties, ChangeStatistics, ReportValues, SetValues}
 use Rattle.board_core.specs.declared.log.Draft.{Draft}
 use Rattle.board_core.proofs.CarriedLemmas.{did_now, values-kept, statistics-kept, values-refused, statistics-refused, finished, IsCountedFirst, counted-done, counted-refused, shots-other, shots-changed}
 use Rattle.board_core.proofs.ChangeLemmas.{shot, absent, present, creation-holds, creation-shot, replacement-absent, replacement-holds, replacement-shot, order-holds, order-shot, deletion-holds, same-at, showing-holds}
+
+-- a key passes its own test
+key-own : (a : Key) → key_eq a a ≡ true
+key-own a = go a.kind a.id
+  where
+    go : (k : Kind) (m : ℕ) → (kind_eq k k && m == m) ≡ true
+    go Housekeeping m = eq-eqb m m refl
+    go Diagnostic m = eq-eqb m m refl
 
 module _ (clock slot : ℕ) (rq : RequestsHeld) (held : List (Key × Held)) (l : LogParts) (channels : List (ℕ × Channel)) (members : StatisticsHeld) (d : Draft)
     (fit : IsFit l.tailoring) (only : RequestsOnly l.tailoring) (b : IsWhole (core_of clock slot rq held l) rq.waiting held channels members) where
@@ -188,6 +199,19 @@ module _ (clock slot : ℕ) (rq : RequestsHeld) (held : List (Key × Held)) (l :
       (shown-shots (ShowProperties key after) t key (plain each.ShowPeriodic) h.is (λ o. refl))
       (showing-holds l.tailoring dones x key held b.structures (plain each.ShowPeriodic) after h.is refl refl (λ s. refl) h.leaves)
 
+  -- an instruction that only orders a report
+  pub only-shown : (e : Effect) (t : IsToCarry (core_of clock slot rq held l) e d) → OnlyShows e → (rq2 : RequestsHeld) (l2 : LogParts) (count : ℕ) → IsAddedTo rq2 l2 count → IsFinished rq2 held l2 count
+  only-shown (ShowStructure key after) t shows rq2 l2 count added = shown-finished key after t rq2 l2 count added
+  only-shown (ShowProperties key after) t shows rq2 l2 count added = properties-finished key after t rq2 l2 count added
+  only-shown (ReportValues ids) t shows rq2 l2 count added = reported-finished (ReportValues ids) t refl ids t.is_effect.0 rq2 l2 count added
+  only-shown (Refused r) t shows rq2 l2 count added = absurd shows
+  only-shown (Create key after) t shows rq2 l2 count added = absurd shows
+  only-shown (Delete key) t shows rq2 l2 count added = absurd shows
+  only-shown (Replace key after z) t shows rq2 l2 count added = absurd shows
+  only-shown (OrderOneShot key) t shows rq2 l2 count added = absurd shows
+  only-shown (ChangeStatistics made) t shows rq2 l2 count added = absurd shows
+  only-shown (SetValues settings) t shows rq2 l2 count added = absurd shows
+
   -- an instruction was refused
   pub refused-finished : (r : Refusal) (t : IsToCarry (core_of clock slot rq held l) (Refused r) d) (rq2 : RequestsHeld) (l2 : LogParts) (count : ℕ)
       → rq2 ≡ record { packets = rq.packets; waiting = first_refused (next_refused rq.waiting) rq.waiting } → l2 ≡ with_moments l (drafted l d.moments.items) → count ≡ length d.moments.items
@@ -198,3 +222,36 @@ module _ (clock slot : ℕ) (rq : RequestsHeld) (held : List (Key × Held)) (l :
       (λ key. refl) b.structures
       (values-refused clock slot rq held l (Refused r) d t refl channels b.values)
       (statistics-refused clock slot rq held l (Refused r) d t refl members b.settled b.statistics)
+
+  -- a new structure that is taken away again leaves all as it was
+  pub taken-back : (key : Key) (to : Held) (mid new : List (Key × Held)) (l2 : LogParts) → held_at held key ≡ None → to.one_shot ≡ None
+      → ChangesAt key (Some to) held mid → ChangesAt key None mid new → AreRisingKeys new
+      → (held_at held key ≡ None → one_shots_of mid ≡ one_shots_of held) → (IfSome (held_at mid key) (λ h. h.one_shot ≡ None) → one_shots_of new ≡ one_shots_of mid) → l2 ≡ l
+      → IsWhole (core_of clock slot rq new l2) rq.waiting new channels members
+  taken-back key to mid new l2 none silent there gone rising kept1 kept2 same =
+      let shots : one_shots_of new ≡ one_shots_of held =
+      kept2 (subst (λ (o : Option Held). IfSome o (λ h. h.one_shot ≡ None)) (sym (there key ∙ ap (λ b. if b then Some to else held_at held key) (key-own key))) silent) ∙ kept1 none in
+      subst (λ (x : LogParts). IsWhole (core_of clock slot rq new x) rq.waiting new channels members) (sym same)
+      (record {
+        board = subst (λ (s : List (Key × ℕ)). IsBoard (with_shots s) rq.waiting) (sym shots) b.board;
+        structures = record {
+          each = λ other. subst (λ (o : Option Held). IfSome o (IsHeld l.tailoring dones other)) (sym (back other)) (b.structures.each other);
+          same = λ other. ap (option_map (λ h. h.structure)) (back other) ∙ b.structures.same other;
+          rising = rising;
+        };
+        values = b.values;
+        statistics = b.statistics;
+        settled = b.settled;
+      })
+    where
+      with_shots : List (Key × ℕ) → Core
+      with_shots s = record { tailoring = l.tailoring; clock = clock; slot_now = slot; one_shots = s; requests = rq.packets; moments = l.moments }
+
+      back : (other : Key) → held_at new other ≡ held_at held other
+      back other = go (key_eq key other) refl
+        where
+          go : (b : Bool) → key_eq key other ≡ b → held_at new other ≡ held_at held other
+          go true q =
+              gone other ∙ ap (λ b. if b then None else held_at mid other) q ∙ sym (ap (held_at held) (sym (keys-one key other q)) ∙ none)
+          go false q =
+              gone other ∙ ap (λ b. if b then None else held_at mid other) q ∙ there other ∙ ap (λ b. if b then Some to else held_at held other) q

@@ -27,7 +27,11 @@ use Rattle.report_structures.specs.declared.refusal.Refusal.{Refusal}
 use Rattle.report_structures.specs.declared.refusal.Refusal.TheVariants.{Exists, Absent, Enabled, Doubled, BadRepetition, TooMany, TooWide}
 use Rattle.report_structures.proofs.EffectLemmas.{err_is_not_ok, state_unless-ok}
 use Rattle.hk_world.proofs.OrderLemmas.{true_is_not_false}
+use Rattle.hk_world.specs.States.{boot_state}
+use Rattle.hk_world.specs.Timelines.{Done, structure_after}
 use Rattle.board_steps.specs.Cores.{Core, state_of}
+use Rattle.board_state.specs.Holdings.{held_at, IsHeld, AreStructures}
+use Rattle.board_state.specs.declared.structures.Held.{Held}
 use Rattle.board_core.specs.Causes.{IsSmallRefusal}
 use Rattle.board_core.specs.Effects.{Leaves, IsEffectOf, kind_of, effect_by}
 use Rattle.board_core.specs.declared.effect.Effect.TheVariants.{Refused, Delete}
@@ -231,3 +235,11 @@ module _ (t : TailoringParts) (fit : IsFit t) where
   small-refusal (plain each.Show) (Some s) r g h e = absurd (ok-err (Some s) r e)
   small-refusal (plain each.OneShot) (Some s) r g h e = absurd (ok-err (Some s) r e)
   small-refusal (plain each.ShowPeriodic) (Some s) r g h e = absurd (ok-err (Some s) r e)
+
+-- a structure that is there is valid
+pub valid-state : (t : TailoringParts) (done : List Done) (key : Key) (held : List (Key × Held)) → AreStructures t done held → IfSome (structure_after t (boot_state t) done key) (λ s. IsValid t s.def)
+valid-state t done key held h = subst (λ (o : Option Structure). IfSome o (λ s. IsValid t s.def)) (h.same key) (go (held_at held key) (h.each key))
+  where
+    go : (o : Option Held) → IfSome o (IsHeld t done key) → IfSome (option_map (λ x. x.structure) o) (λ s. IsValid t s.def)
+    go None k = tt
+    go (Some x) k = k.valid

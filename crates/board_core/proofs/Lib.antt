@@ -24,3 +24,9 @@ mod ToldLemmas
 mod StatisticsWorkLemmas
 mod StatisticsCarriedLemmas
 mod StatisticsShortLemmas
+mod StatisticsClosingLemmas
+mod FileLemmas
+mod ReportedLemmas
+mod BoundLemmas
+mod ValueReportLemmas
+mod SettingLemmas

@@ -1,6 +1,11 @@
 -- Reports on the statistics are short, so they can be written.
 use Rattle.std.proofs.Common.{arith, ap₂, true, false, ◌≡◌, ℕ, zero, suc, ◌+◌, ◌*◌, ◌/◌, ◌<◌, ◌≤◌, ◌^◌, refl, sym, ◌∙◌, ap, subst, List, [], ◌∷◌, ◌++◌, length, length-append, flat_map, ℤ, Bool, Option, Some, None}
+use Rattle.std.specs.Prelude.{IfOk, Result, Ok, Err}
+use Rattle.std.specs.List.{All}
 use Rattle.std.specs.Option.{option_map_or}
+use Rattle.std.proofs.Math.Nat.{pow-le-pow_right}
+use Rattle.std.proofs.lemmas.List.Elements.{All-from_recursion}
+use Rattle.hk_base.specs.declared.types.Key.{Key}
 use Rattle.hk_base.specs.Fields.{octets_of, signed_octets_of}
 use Rattle.hk_base.specs.Fit.{IsFit, greatest_tag}
 use Rattle.hk_base.specs.Parameters.{parameter}
@@ -17,14 +22,27 @@ use Rattle.pus_messages.specs.declared.message.ReportBody.{ReportBody}
 use Rattle.pus_messages.specs.declared.message.ReportBody.TheVariants.{Stat}
 use Rattle.hk_world.specs.Timelines.{Session, tailoring, state_after}
 use Rattle.hk_world.specs.declared.moment.Moment.{Moment}
+use Rattle.board_steps.specs.Cores.{Core, session}
 use Rattle.board_steps.specs.Plans.{statistics, definitions}
 use Rattle.board_steps.specs.Steps.{IsAbout}
 use Rattle.board_steps.specs.Timeline.{IsGood}
-use Rattle.board_state.specs.Statistics.{StatisticsHeld, AreStatistics, IsMember, params_of}
+use Rattle.board_state.specs.Statistics.{StatisticsHeld, AreStatistics, IsMember, IsSettled, IsTimely, params_of}
+use Rattle.board_state.specs.declared.channels.Channel.{Channel}
+use Rattle.board_state.specs.declared.running.Running.{Running}
+use Rattle.board_state.specs.declared.structures.Held.{Held}
 use Rattle.board_state.specs.declared.members.Member.{Member}
 use Rattle.board_state.proofs.MemberLemmas.{StartsEmpty}
-use Rattle.board_state.proofs.SummaryLemmas.{report-honest}
+use Rattle.board_state.specs.declared.instruction.StatisticsChange.TheVariants as change
+use Rattle.board_state.proofs.ChannelLemmas.{IsNoFiling}
+use Rattle.board_state.proofs.StatisticsLemmas.{LeavesStatistics, statistics-left}
+use Rattle.board_state.proofs.SummaryLemmas.{report-honest, members-timely}
 use Rattle.board_state.proofs.WritableLemmas.{report-fits, params-told}
+use Rattle.board_core.specs.Boards.{IsWhole}
+use Rattle.board_core.specs.Effects.{IsExecuting, is_done}
+use Rattle.board_core.specs.Execution.{IsExecutedBy, IsToldAfter}
+use Rattle.board_core.specs.declared.effect.Effect.{Effect}
+use Rattle.board_core.specs.declared.effect.Effect.TheVariants.{ChangeStatistics}
+use Rattle.board_core.proofs.ToldLemmas.{executed-done}
 use Rattle.board_core.specs.Logs.{IsWritable}
 use Rattle.board_core.specs.Reporting.{IsStatisticsBody, IsDefinitionsBody}
 
@@ -76,8 +94,23 @@ module _ (t : TailoringParts) (fit : IsFit t) where
       let l6 = length-append f g in
       let fraction = fit.widths.mean_fraction in
       let mean = value-short r.param t.widths.mean_fraction r.mean in
-      omega (arith, l1, l2, l3, l4, l5, l6, id-octets r.param, length-digits 256 4 r.count, value-octets r.param r.max, time-octets r.max_time, value-octets r.param r.min,
-      time-octets r.min_time, mean, fraction)
+      omega (
+        arith,
+        l1,
+        l2,
+        l3,
+        l4,
+        l5,
+        l6,
+        id-octets r.param,
+        length-digits 256 4 r.count,
+        value-octets r.param r.max,
+        time-octets r.max_time,
+        value-octets r.param r.min,
+        time-octets r.min_time,
+        mean,
+        fraction,
+      )
 
   rows-short : (rows : List StatRow) → length (flat_map (row_octets t) rows) ≤ 46 * length rows
   rows-short [] = omega arith
@@ -121,23 +154,76 @@ module _ (t : TailoringParts) (fit : IsFit t) where
       record {
         grammar = (span, ids);
         room = tt;
-        short = omega (arith, l1, l2, l3, flag-octets x.enabled, length-digits 256 t.widths.interval_octets x.interval, length-digits 256 t.widths.count_octets (length (params_of x.members)),
-            ids-short (params_of x.members), few, wide, long);
+        short = omega (
+          arith,
+          l1,
+          l2,
+          l3,
+          flag-octets x.enabled,
+          length-digits 256 t.widths.interval_octets x.interval,
+          length-digits 256 t.widths.count_octets (length (params_of x.members)),
+          ids-short (params_of x.members),
+          few,
+          wide,
+          long,
+        );
       }
 
 -- the report of the statistics that are held, and what it is about
 pub statistics-told : (s : Session) (slot now : ℕ) (moments : List Moment) (x : StatisticsHeld) (tag : ℕ) (body : ReportBody) → IsFit (tailoring s) → IsGood s slot moments → length moments ≤ 1048576
     → slot * (tailoring s).widths.slot ≤ greatest_tag (tailoring s) → StartsEmpty s.initial → tag ≤ greatest_tag (tailoring s) → AreStatistics s moments x → IsStatisticsBody (tailoring s) x tag body
     → IsWritable (tailoring s) body × IsAbout s now moments tag statistics body
-statistics-told s slot now moments x tag body fit good room early empty le h k =
-    (subst (IsWritable (tailoring s)) (sym k.1) (statistics-written (tailoring s) fit k.0 (report-fits s slot moments fit good room early x tag k.0 empty le h k.2)),
-    (k.0, k.1, report-honest s moments x tag k.0 h k.2))
+statistics-told s slot now moments x tag body fit good room early empty le h k = (
+  subst (IsWritable (tailoring s)) (sym k.1) (statistics-written (tailoring s) fit k.0 (report-fits s slot moments fit good room early x tag k.0 empty le h k.2)),
+  (k.0, k.1, report-honest s moments x tag k.0 h k.2),
+)
 
 -- what the statistics are taken of, and what it is about
 pub definitions-told : (s : Session) (now : ℕ) (moments : List Moment) (x : StatisticsHeld) (tag : ℕ) (body : ReportBody) → IsFit (tailoring s) → AreStatistics s moments x → IsDefinitionsBody x body
     → IsWritable (tailoring s) body × IsAbout s now moments tag definitions body
-definitions-told s now moments x tag body fit h k =
-    (subst (IsWritable (tailoring s)) (sym k) (definitions-written (tailoring s) fit x h.span h.ids),
-    k ∙ ap₂ (λ (e : Bool) (n : ℕ). Stat (told.Definitions e n (params_of x.members))) h.enabled h.interval
-    ∙ ap (λ (ids : List ℕ). Stat (told.Definitions (state_after s moments).statistics.enabled (state_after s moments).statistics.interval ids))
-    (params-told s moments (state_after s moments).statistics.members x.members h.members))
+definitions-told s now moments x tag body fit h k = (
+  subst (IsWritable (tailoring s)) (sym k) (definitions-written (tailoring s) fit x h.span h.ids),
+  k ∙ ap₂ (λ (e : Bool) (n : ℕ). Stat (told.Definitions e n (params_of x.members))) h.enabled h.interval
+      ∙ ap (λ (ids : List ℕ). Stat (told.Definitions (state_after s moments).statistics.enabled (state_after s moments).statistics.interval ids))
+      (params-told s moments (state_after s moments).statistics.members x.members h.members),
+)
+
+-- the times of what is held can be told
+pub held-timely : (c : Core) (waiting : List Running) (held : List (Key × Held)) (channels : List (ℕ × Channel)) (x : StatisticsHeld) → IsFit c.tailoring → IsWhole c waiting held channels x
+    → All (IsTimely c.tailoring) x.members
+held-timely c waiting held channels x fit h =
+    let coarse = fit.widths.coarse.1 in
+    let fine = fit.widths.fine in
+    let most : 256 ^ (c.tailoring.widths.coarse + c.tailoring.widths.fine) ≤ 256 ^ 7 =
+    (let some : 0 < 256 = omega arith in let le : c.tailoring.widths.coarse + c.tailoring.widths.fine ≤ 7 = omega (arith, coarse, fine) in pow-le-pow_right some le) in
+    let early = h.board.stands.early in
+    All-from_recursion (IsTimely c.tailoring) x.members (members-timely (session c) c.slot_now c.moments x h.board.stands.good (omega (arith, early, most)) h.statistics)
+
+-- an instruction that orders a report leaves what is held of the statistics
+left-after : (c : Core) (w : Running) (e : Effect) (h : IsExecuting c w e) (m : Moment) (x : StatisticsHeld) → IsExecutedBy c w e m → is_done e ≡ true → LeavesStatistics h.instruction
+    → IsSettled (session c) c.moments → AreStatistics (session c) c.moments x → AreStatistics (session c) (m ∷ c.moments) x
+left-after c w e h m x by done leaves settled before =
+    statistics-left (session c) m c.moments w.number h.instruction x (executed-done c w e h m by done) leaves (subst IsNoFiling (sym by.act_is) tt) settled before
+
+-- the report of the statistics
+pub statistics-after : (c : Core) (waiting : List Running) (held : List (Key × Held)) (channels : List (ℕ × Channel)) (x : StatisticsHeld) (w : Running) (resets : Bool)
+    (h : IsExecuting c w (ChangeStatistics (change.Report resets))) (m : Moment) (tag : ℕ) (body : ReportBody) → IsFit c.tailoring → IsWhole c waiting held channels x → tag ≤ greatest_tag c.tailoring
+    → IsExecutedBy c w (ChangeStatistics (change.Report resets)) m → IsStatisticsBody c.tailoring x tag body → IsToldAfter c m tag (statistics ∷ []) (Some body)
+statistics-after c waiting held channels x w resets h m tag body fit b le by k =
+    let now = left-after c w (ChangeStatistics (change.Report resets)) h m x by refl (subst LeavesStatistics (sym h.is_effect.0) tt) b.settled b.statistics in (
+      (statistics-told (session c) c.slot_now c.slot_now c.moments x tag body fit b.board.stands.good b.board.room b.board.stands.early (refl, refl) le b.statistics k).0,
+      (k.0, k.1, report-honest (session c) (m ∷ c.moments) x tag k.0 now k.2),
+    )
+
+-- the report of what they are taken of
+pub definitions-after : (c : Core) (waiting : List Running) (held : List (Key × Held)) (channels : List (ℕ × Channel)) (x : StatisticsHeld) (w : Running)
+    (h : IsExecuting c w (ChangeStatistics change.ShowDefinitions)) (m : Moment) (tag : ℕ) (body : ReportBody) → IsFit c.tailoring → IsWhole c waiting held channels x
+    → IsExecutedBy c w (ChangeStatistics change.ShowDefinitions) m → IsDefinitionsBody x body → IsToldAfter c m tag (definitions ∷ []) (Some body)
+definitions-after c waiting held channels x w h m tag body fit b by k =
+    let now = left-after c w (ChangeStatistics change.ShowDefinitions) h m x by refl (subst LeavesStatistics (sym h.is_effect.0) tt) b.settled b.statistics in
+    definitions-told (session c) c.slot_now (m ∷ c.moments) x tag body fit now k
+
+-- what holds of an Ok holds of it still by what follows
+pub ok-mapped : {E : Type 0} (P Q : ReportBody → Type 0) → ((body : ReportBody) → P body → Q body) → (r : Result ReportBody E) → IfOk r P → IfOk r Q
+ok-mapped P Q f (Ok body) h = f body h
+ok-mapped P Q f (Err fault) h = tt

@@ -1,6 +1,6 @@
 -- What a change of the statistics that is carried out leaves.
 use Rattle.std.proofs.Common.{arith, ◌≡◌, ℕ, zero, suc, ◌<◌, ◌≤◌, ◌+◌, max, refl, sym, ◌∙◌, ap, ap₂, subst, List, [], ◌∷◌, ◌++◌, length, map, filter, Bool, true, false, ◌==◌, nat_lt, Option, Some, None}
-use Rattle.std.specs.Prelude.{⊤, ℤ, IfSome, if◌then◌else◌}
+use Rattle.std.specs.Prelude.{⊤, ℤ, IfSome, MatchBool, if◌then◌else◌}
 use Rattle.std.specs.List.{AllByRecursion, AllZip, list_any}
 use Rattle.std.specs.Option.{option_map_or}
 use Rattle.std.proofs.lemmas.Bool.Decides.{nat_tests}
@@ -65,12 +65,12 @@ held-small members (st04.add id) = go (is_held id members) (nat_lt (length membe
     go : (a b : Bool) → IfSome (if a then None else if b then None else Some (TooMany 256)) IsSmallRefusal
     go true b = tt
     go false true = tt
-    go false false = search rules
+    go false false = tt
 held-small members (st04.delete id) = go (is_held id members)
   where
     go : (a : Bool) → IfSome (if a then None else Some Absent) IsSmallRefusal
     go true = tt
-    go false = search rules
+    go false = tt
 held-small members (st04.report resets) = tt
 held-small members st04.reset = tt
 held-small members (st04.enable n) = tt
@@ -127,7 +127,7 @@ unfiled-act act other e h = subst IsNoFiling (sym e) h
 reported : (resets : Bool) (s : Session) (clock slot : ℕ) (moments after : List Moment) (m : Moment) (k : ℕ) (last : ℕ) (old new : StatisticsHeld)
     → done_at s m ≡ Some (did m k (on_statistics (st04.report resets))) → IsNoFiling m.act → (e : Moment) → e.act ≡ Emitted → is_statistics_packet (s.protocol.reception e.packet) ≡ true
     → after ≡ e ∷ m ∷ moments → last ≡ e.tag → m.tag < e.tag → AllByRecursion (λ x. x.tag < m.tag) moments → IsSettled s moments
-    → (if resets then Resets last old new else new ≡ old) → AreStatistics s moments old → Holds s after new
+    → MatchBool resets (Resets last old new) (new ≡ old) → AreStatistics s moments old → Holds s after new
 reported true s clock slot moments after m k last old new done none e act packet is tag lt tags settled changes h =
     let x = on_statistics (st04.report true) in
     let first = statistics-left s m moments k x old done tt none settled h in
@@ -143,7 +143,7 @@ reported false s clock slot moments after m k last old new done none e act packe
     subst (λ ms. Holds s ms new) (sym is)
     (subst (AreStatistics s (e ∷ m ∷ moments)) (sym changes) (statistics-still s e (m ∷ moments) old undone (unfiled-act e.act Emitted act tt) one first), settled-still s e (m ∷ moments) undone)
 
-told-after : (resets : Bool) (last slot : ℕ) (old new : StatisticsHeld) → Changes (st04.report resets) last slot old new → (if resets then Resets last old new else new ≡ old)
+told-after : (resets : Bool) (last slot : ℕ) (old new : StatisticsHeld) → Changes (st04.report resets) last slot old new → MatchBool resets (Resets last old new) (new ≡ old)
 told-after true last slot old new h = h
 told-after false last slot old new h = h
 
@@ -159,7 +159,7 @@ carried-holds change.Reset s clock slot k number moments after last old new h =
 carried-holds (change.Enable n) s clock slot k number moments after last old new h =
     let m : Moment = h.next.0 in
     let is : new ≡ record old { enabled = true; interval = n; first_slot = slot_of (tailoring s) m.tag + 1 } =
-        h.changes ∙ ap (λ i. record old { enabled = true; interval = n; first_slot = slot_of (tailoring s) i + 1 }) (sym h.next.1.tag) in
+    h.changes ∙ ap (λ i. record old { enabled = true; interval = n; first_slot = slot_of (tailoring s) i + 1 }) (sym h.next.1.tag) in
     one-holds s m moments after k (st04.enable n) new h.next.2 h.done refl
     (subst (AreStatistics s (m ∷ moments)) (sym is)
     (statistics-enabled s m moments k n old h.done (unfiled-act m.act (Executed k number true) h.next.1.follows.0 tt) h.settled h.grammar h.before))
@@ -173,7 +173,7 @@ carried-holds (change.Add id) s clock slot k number moments after last old new h
     let rises = tag-rises s clock moments m h.timeline h.next.1.tag (omega (arith, e, h.fit)) in
     one-holds s m moments after k (st04.add id) new h.next.2 h.done refl
     (statistics-added s m moments k id old new h.done (unfiled-act m.act (Executed k number true) h.next.1.follows.0 tt) h.settled h.empty rises.low rises.above h.grammar h.wide
-        (added-room old.members id h.allowed) h.changes h.before)
+    (added-room old.members id h.allowed) h.changes h.before)
 carried-holds (change.Delete id) s clock slot k number moments after last old new h =
     let m : Moment = h.next.0 in
     one-holds s m moments after k (st04.delete id) new h.next.2 h.done refl

@@ -1,5 +1,5 @@
 -- What the code holds of the statistics where they are changed and reported.
-use Rattle.std.specs.Prelude.{◌≡◌, ℕ, ◌≤◌, List, [], ◌∷◌, length, Bool, ◌==◌, nat_lt, Option, Some, None, if◌then◌else◌}
+use Rattle.std.specs.Prelude.{◌≡◌, ℕ, ◌≤◌, List, [], ◌∷◌, length, filter_map, option_map, Bool, ◌==◌, nat_lt, Option, Some, None, if◌then◌else◌}
 use Rattle.std.specs.List.{list_any}
 use Rattle.statistics.specs.Summaries.{Sample, sample, AreTotals}
 use Rattle.st04_grammar.specs.Instructions.{StatisticsChange, add, delete}
@@ -11,6 +11,8 @@ use Rattle.pus_messages.specs.declared.message.ReportBody.{ReportBody}
 use Rattle.pus_messages.specs.declared.message.ReportBody.TheVariants.{Stat}
 use Rattle.report_structures.specs.declared.refusal.Refusal.{Refusal}
 use Rattle.report_structures.specs.declared.refusal.Refusal.TheVariants.{Absent, TooMany}
+use Rattle.board_state.specs.Values.{value_at}
+use Rattle.board_state.specs.declared.channels.Channel.{Channel}
 use Rattle.board_state.specs.Statistics.{StatisticsHeld, IsReportOf, Files, params_of}
 use Rattle.board_state.specs.declared.members.Member.{Member}
 
@@ -42,3 +44,11 @@ IsStatisticsBody t x tag body = (r : StatReport) × (body ≡ Stat (told.Statist
 -- a body is the report of what the statistics are taken of
 abbrev pub IsDefinitionsBody : StatisticsHeld → ReportBody → Type 0
 IsDefinitionsBody x body = body ≡ Stat (told.Definitions x.enabled x.interval (params_of x.members))
+
+-- a parameter with the value that is held of it, if it has one
+abbrev pub pair_held : List (ℕ × Channel) → ℕ → Option Setting
+pair_held channels id = option_map (λ v. record { param = id; value = v }) (value_at channels id)
+
+-- parameters with the values that are held of them
+abbrev pub pairs_held : List (ℕ × Channel) → List ℕ → List Setting
+pairs_held channels ids = filter_map (pair_held channels) ids

@@ -14,6 +14,7 @@ use board_state::{Channels, Members, Requests, Structures};
 use board_steps::{BoardFault, Event, Sample, journals};
 use hk_base::{Key, Memory, Structure, Tailoring, Value};
 use hk_world::{Act, Journal};
+use pus_messages::requests_are_spelled;
 use std::alloc::Global;
 use std::marker::Model;
 
@@ -91,6 +92,7 @@ impl BoardCore {
     pub fn filed(&self, param: u32) -> bool
         ensures { result ≡ is_filed self.now param }
     {
+        let _fit = self.log.tailoring().widths();
         self.channels.is_filed(param, self.slot_now)
     }
 
@@ -139,6 +141,9 @@ impl BoardCore {
         requires { MayFile self.old sample }
         ensures { Answers self.old (Filing sample) self.new result }
     {
+        // A law, and the fitness of the tailoring: they do nothing.
+        requests_are_spelled();
+        let _fit = self.log.tailoring().widths();
         let Sample { param, slot, value } = sample;
         let act = Act::Filed(param, slot, value);
         let count = self.log.add_one(self.clock, act, None)?;

@@ -1,9 +1,8 @@
 //! What an instruction does in the present state.
 ghost use Rattle.std.specs.Prelude.{◌≡◌, ◌+◌, ◌<◌, ◌^◌, length, IfOk};
 ghost use Rattle.st03_grammar.specs.Instructions.{change_of};
-ghost use Rattle.st20_grammar.specs.Spelling.{AreIds};
 ghost use Rattle.report_structures.specs.Changes.{IsGrammarChange};
-ghost use Rattle.pus_messages.specs.Instructions.{on_structure, on_statistics, report_values};
+ghost use Rattle.pus_messages.specs.Instructions.{on_structure, on_statistics};
 ghost use Rattle.board_state.specs.OneByOne.{instruction_of, statistics_change_of};
 ghost use Rattle.board_core.specs.Effects.{IsEffectOf, IsOfGrammar, IsStatisticsOfGrammar, is_done, refusal_of, effect_topics, kind_of, effect_by};
 
@@ -92,16 +91,6 @@ impl BoardCore {
             Ok(None) => Ok(Effect::Delete(key)),
             Err(ApplyFault::Refused(refusal)) => Ok(Effect::Refused(refusal)),
             Err(ApplyFault::Memory) => Err(Memory),
-        }
-    }
-
-    fn report_effect(&self, ids: &[u32]) -> Result<Effect, Memory>
-        requires { AreIds self.now.tailoring ids.now }
-        ensures { IfOk result (IsEffectOf self.now (report_values ids.now)) }
-    {
-        match self.channels.without_value(ids) {
-            Some(id) => Ok(Effect::Refused(Refusal::NoValue(id))),
-            None => Ok(Effect::ReportValues(Items::from_slice(self.alloc, ids)?)),
         }
     }
 }

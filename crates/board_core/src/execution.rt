@@ -22,7 +22,6 @@ ghost use Rattle.board_core.specs.declared.effect.Effect.TheVariants as effect;
 use crate::board::BoardCore;
 use crate::effect::Effect;
 use crate::log::Draft;
-use crate::statistics_work::{definitions_report, statistics_report};
 use crate::work::progress;
 use board_state::{Running, StatisticsChange};
 use board_steps::BoardFault;
@@ -89,7 +88,8 @@ impl BoardCore {
 
     /// The report that an effect orders, at this tag.
     fn ordered_report(&self, effect: &Effect, tag: u64) -> Result<Option<ReportBody>, Memory>
-        requires { (x : Instruction) × IsEffectOf self.now x effect.now }
+        requires effect { (x : Instruction) × IsEffectOf self.now x effect.now }
+        requires early { tag ≤ fit.greatest_tag self.now.tailoring }
         ensures { (w : Running) (m : Moment) → IsExecuting self.now w effect.now → IsExecutedBy self.now w effect.now m → IfOk result (IsToldAfter self.now m tag (effect_topics effect.now)) }
     {
         match effect {
@@ -101,10 +101,10 @@ impl BoardCore {
                 Ok(Some(self.properties_report(*key, structure)?))
             }
             Effect::ChangeStatistics(StatisticsChange::Report(_)) => {
-                Ok(Some(statistics_report(self.alloc, self.log.tailoring(), &self.members, tag)?))
+                Ok(Some(self.reported_statistics(tag)?))
             }
             Effect::ChangeStatistics(StatisticsChange::ShowDefinitions) => {
-                Ok(Some(definitions_report(self.alloc, &self.members)?))
+                Ok(Some(self.reported_definitions()?))
             }
             Effect::ReportValues(ids) => Ok(Some(self.values_report(ids.as_slice())?)),
             _ => Ok(None),
@@ -121,22 +121,6 @@ impl BoardCore {
         };
         let rows = Items::from_slice(self.alloc, &[row])?;
         Ok(ReportBody::Hk(Report03::Periodic(key.kind, rows)))
-    }
-
-    fn values_report(&self, ids: &[u32]) -> Result<ReportBody, Memory>
-        requires ids { AreIds self.now.tailoring ids.now }
-        requires values { refusal self.now.tailoring (state_of self.now) (report_values ids.now) ≡ None }
-        ensures { IfOk result (λ body. IsOrderedBody self.now 0 (values_of ids.now ∷ []) (Some body)) }
-    {
-        let mut pairs = Vec::new(self.alloc);
-        for id in ids {
-            let Some(value) = self.channels.value(*id) else {
-                unreachable!();
-            };
-            pairs.push(Setting { param: *id, value })?;
-        }
-        let pairs = Items::from_vec(pairs);
-        Ok(ReportBody::Par(Report20 { pairs }))
     }
 
     /// Adds the moments of an instruction to the journal, and does what it does.

@@ -12,6 +12,7 @@ mod log;
 mod packets;
 mod statistics_work;
 mod uplink;
+mod values_work;
 mod work;
 
 pub use board::BoardCore;

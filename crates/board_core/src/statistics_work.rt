@@ -1,5 +1,6 @@
 //! The statistics: why a change is refused, what it leaves, and the reports on them.
-ghost use Rattle.std.specs.Prelude.{◌≡◌, ◌≤◌, length, IfOk};
+ghost use Rattle.std.specs.Prelude.{◌≡◌, ◌≤◌, ◌∷◌, [], ℕ, Bool, Some, length, IfOk};
+ghost use Rattle.hk_base.specs.Fit as fit;
 ghost use Rattle.std.specs.List.{All, AllByRecursion};
 ghost use Rattle.statistics.specs.Summaries.{IsSampleValue};
 ghost use Rattle.pus_messages.specs.Instructions.{on_statistics};
@@ -7,7 +8,12 @@ ghost use Rattle.board_steps.specs.Steps.{Answers};
 ghost use Rattle.board_steps.specs.declared.event.Event.TheVariants.{Work};
 ghost use Rattle.board_state.specs.OneByOne.{statistics_change_of};
 ghost use Rattle.board_state.specs.Statistics.{Changes, IsTimely};
-ghost use Rattle.board_core.specs.Effects.{IsEffectOf, IsStatisticsOfGrammar, IsToCarry};
+ghost use Rattle.board_state.specs.declared.running.Running.{Running};
+ghost use Rattle.board_state.specs.declared.instruction.StatisticsChange.TheVariants as change;
+ghost use Rattle.hk_world.specs.declared.moment.Moment.{Moment};
+ghost use Rattle.board_steps.specs.Plans as topic;
+ghost use Rattle.board_core.specs.Effects.{IsEffectOf, IsExecuting, IsStatisticsOfGrammar, IsToCarry};
+ghost use Rattle.board_core.specs.Execution.{IsExecutedBy, IsToldAfter};
 ghost use Rattle.board_core.specs.Reporting.{refusal_held, FilesAll, HasAtMost, IsStatisticsBody, IsDefinitionsBody};
 ghost use Rattle.board_core.specs.declared.effect.Effect.TheVariants as effect;
 
@@ -33,6 +39,24 @@ impl BoardCore {
             Some(refusal) => Effect::Refused(refusal),
             None => Effect::ChangeStatistics(change),
         }
+    }
+
+    /// The report of the statistics at this tag, which an instruction orders.
+    pub(crate) fn reported_statistics(&self, tag: u64) -> Result<ReportBody, Memory>
+        requires { tag ≤ fit.greatest_tag self.now.tailoring }
+        ensures { (w : Running) (m : Moment) (resets : Bool) → IsExecuting self.now w (effect.ChangeStatistics (change.Report resets)) → IsExecutedBy self.now w (effect.ChangeStatistics (change.Report resets)) m → IfOk result (λ body. IsToldAfter self.now m tag (topic.statistics ∷ []) (Some body)) }
+    {
+        let tailoring = self.log.tailoring();
+        let _fit = tailoring.widths();
+        statistics_report(self.alloc, tailoring, &self.members, tag)
+    }
+
+    /// The report of what the statistics are taken of, which an instruction orders.
+    pub(crate) fn reported_definitions(&self) -> Result<ReportBody, Memory>
+        ensures { (w : Running) (m : Moment) (tag : ℕ) → IsExecuting self.now w (effect.ChangeStatistics change.ShowDefinitions) → IsExecutedBy self.now w (effect.ChangeStatistics change.ShowDefinitions) m → IfOk result (λ body. IsToldAfter self.now m tag (topic.definitions ∷ []) (Some body)) }
+    {
+        let _fit = self.log.tailoring().widths();
+        definitions_report(self.alloc, &self.members)
     }
 
     /// Changes the statistics. The last moment has the last tag.
@@ -137,15 +161,10 @@ pub(crate) fn statistics_report(
 }
 
 /// The report of what the statistics are taken of.
-pub(crate) fn definitions_report(
-    alloc: Global,
-    members: &Members,
-) -> Result<ReportBody, Memory>
+fn definitions_report(alloc: Global, members: &Members) -> Result<ReportBody, Memory>
     ensures { IfOk result (IsDefinitionsBody members.now) }
 {
     let params = members.params(alloc)?;
     let (enabled, interval) = (members.is_enabled(), members.interval());
-    Ok(ReportBody::Stat(Report04::Definitions(
-        enabled, interval, params,
-    )))
+    Ok(ReportBody::Stat(Report04::Definitions(enabled, interval, params)))
 }

@@ -192,9 +192,11 @@ or-falses false b e f = f
 pub stands-last : (t : TailoringParts) (earlier ids : List ℕ) (id : ℕ) → AllStand (numeric_fault t) earlier ids → is_among ids id ≡ false → numeric_fault t earlier id ≡ None
     → AllStand (numeric_fault t) earlier (ids ++ id ∷ [])
 stands-last t earlier [] id h e f = (f, tt)
-stands-last t earlier (x ∷ xs) id h e f =
-    (h.0, stands-last t (x ∷ earlier) xs id h.1 (or-right-false (x == id) (is_among xs id) e)
-        (stands-others t earlier (x ∷ earlier) id f (λ g. or-falses (x == id) (is_among earlier id) (or-left-false (x == id) (is_among xs id) e) g)))
+stands-last t earlier (x ∷ xs) id h e f = (
+  h.0,
+  stands-last t (x ∷ earlier) xs id h.1 (or-right-false (x == id) (is_among xs id) e)
+      (stands-others t earlier (x ∷ earlier) id f (λ g. or-falses (x == id) (is_among earlier id) (or-left-false (x == id) (is_among xs id) e) g)),
+)
 
 -- with fewer IDs
 stands-fewer-by : (t : TailoringParts) (f : Member → Bool) (earlier others : List ℕ) (xs : List Member) → AllStand (numeric_fault t) earlier (params_of xs)

@@ -151,7 +151,7 @@ did m k x = record { tag = m.tag; request = k; instruction = x }
 -- the instruction that was done leaves what is held now
 done-held : (s : Session) (m : Moment) (moments : List Moment) (k : ℕ) (x : Instruction) (new : StatisticsHeld) → done_at s m ≡ Some (did m k x) → IsSettled s moments
     → AreLeft (tailoring s) (statistics_left x m.tag (statistics_after s.initial (done_instructions s moments))) (if is_reset x then m.tag else start_after s moments)
-        (did m k x ∷ done_instructions s moments) (m ∷ moments) new
+    (did m k x ∷ done_instructions s moments) (m ∷ moments) new
     → AreStatistics s (m ∷ moments) new
 done-held s m moments k x new e settled h =
     held s (m ∷ moments) new (did m k x ∷ done_instructions s moments) (if is_reset x then m.tag else start_after s moments)
@@ -293,8 +293,8 @@ statistics-restarted s m moments old new act told did tags becomes h =
     let ids = params-same (λ x y. IsEmpty x.param y) (λ x y q. q.param) old.members new.members becomes.0 in
     let undone : done_at s m ≡ None = ap (done_by s m.tag) act in
     let starts : restarts s (m ∷ moments) ≡ true =
-        ap (λ o. passes is_reset o || (is_statistics_packet (s.protocol.reception m.packet) && newest_did is_resetting_report s moments)) undone
-        ∙ ap₂ (λ a b. a && b) told did in
+    ap (λ o. passes is_reset o || (is_statistics_packet (s.protocol.reception m.packet) && newest_did is_resetting_report s moments)) undone
+    ∙ ap₂ (λ a b. a && b) told did in
     held s (m ∷ moments) new (done_instructions s moments) m.tag (ap (λ o. cons_option o (done_instructions s moments)) undone)
     (ap (λ b. if b then m.tag else start_after s moments) starts)
     (subst (AreLeft (tailoring s) st m.tag (done_instructions s moments) (m ∷ moments)) (sym becomes.1)
@@ -443,7 +443,7 @@ members-again : (first id : ℕ) (m : Moment) (moments : List Moment) → IsNoFi
 members-again first id m moments none lt tags olds xs ys h k =
     zip-renewed (IsCounted first (m ∷ moments)) (added_at id m.tag) olds ys
     (zip-then (λ a. ⊤) (IsCounted first (m ∷ moments)) (RestartsAt id) (λ a y. IsCounted first (m ∷ moments) (added_at id m.tag a) y)
-        (λ a x y u p q. go a x y p (x.param == id) refl q) olds xs ys (all-true olds) (members-still first m moments none olds xs h) k)
+    (λ a x y u p q. go a x y p (x.param == id) refl q) olds xs ys (all-true olds) (members-still first m moments none olds xs h) k)
   where
     go : (a : states.Member) (x y : Member) → IsCounted first (m ∷ moments) a x → (b : Bool) → (x.param == id) ≡ b → MatchBool b (IsEmpty id y) (y ≡ x)
         → IsCounted first (m ∷ moments) (added_at id m.tag a) y
@@ -525,26 +525,26 @@ statistics-added s m moments k id old new e none settled empty positive tags num
     members true f =
         let was : is_member id (statistics_after s.initial (done_instructions s moments)).members ≡ true = member-alike s moments old id h ∙ f in
         subst (λ b. AllZip (IsCounted (start_after s moments) (m ∷ moments))
-            (if b then map (added_at id m.tag) (statistics_after s.initial (done_instructions s moments)).members
-            else (statistics_after s.initial (done_instructions s moments)).members ++ record { param = id; added = m.tag } ∷ []) new.members) (sym was)
+        (if b then map (added_at id m.tag) (statistics_after s.initial (done_instructions s moments)).members
+        else (statistics_after s.initial (done_instructions s moments)).members ++ record { param = id; added = m.tag } ∷ []) new.members) (sym was)
         (members-again (start_after s moments) id m moments none early tags (statistics_after s.initial (done_instructions s moments)).members old.members new.members kept.members (adds.there f))
     members false f =
         let was : is_member id (statistics_after s.initial (done_instructions s moments)).members ≡ false = member-alike s moments old id h ∙ f in
         let more = adds.absent f in
         subst (λ b. AllZip (IsCounted (start_after s moments) (m ∷ moments))
-            (if b then map (added_at id m.tag) (statistics_after s.initial (done_instructions s moments)).members
-            else (statistics_after s.initial (done_instructions s moments)).members ++ record { param = id; added = m.tag } ∷ []) new.members) (sym was)
+        (if b then map (added_at id m.tag) (statistics_after s.initial (done_instructions s moments)).members
+        else (statistics_after s.initial (done_instructions s moments)).members ++ record { param = id; added = m.tag } ∷ []) new.members) (sym was)
         (subst (AllZip (IsCounted (start_after s moments) (m ∷ moments)) ((statistics_after s.initial (done_instructions s moments)).members ++ record { param = id; added = m.tag } ∷ [])) (sym more.2)
         (zip-push (IsCounted (start_after s moments) (m ∷ moments)) (statistics_after s.initial (done_instructions s moments)).members old.members (record { param = id; added = m.tag }) more.0
-            (members-still (start_after s moments) m moments none (statistics_after s.initial (done_instructions s moments)).members old.members kept.members)
-            (more.1.param, subst (λ l. AreTotals l more.0.stat) (sym (empty-new (start_after s moments) id m moments early tags)) more.1.totals)))
+        (members-still (start_after s moments) m moments none (statistics_after s.initial (done_instructions s moments)).members old.members kept.members)
+        (more.1.param, subst (λ l. AreTotals l more.0.stat) (sym (empty-new (start_after s moments) id m moments early tags)) more.1.totals)))
 
     ids : (b : Bool) → list_any (λ x. x.param == id) old.members ≡ b → AreNumericIds (tailoring s) 0 (params_of new.members)
     ids true f = subst (AreNumericIds (tailoring s) 0) (sym (params-same (RestartsAt id) (restarts-same id) old.members new.members (adds.there f))) kept.ids
     ids false f =
         let more = adds.absent f in
         let list : params_of new.members ≡ params_of old.members ++ id ∷ [] =
-            ap params_of more.2 ∙ params-append old.members (more.0 ∷ []) ∙ ap (λ n. params_of old.members ++ n ∷ []) more.1.param in
+        ap params_of more.2 ∙ params-append old.members (more.0 ∷ []) ∙ ap (λ n. params_of old.members ++ n ∷ []) more.1.param in
         let one : length (params_of old.members ++ id ∷ []) ≡ length (params_of old.members) + 1 = length-append (params_of old.members) (id ∷ []) in
         let size : length (params_of old.members) ≡ length old.members = length-params old.members in
         let less = few f in
@@ -597,10 +597,12 @@ statistics-filed s m moments id slot v old new act settled empty positive tags f
     go a x y g p true e q =
         let named : a.param ≡ id = sym p.0 ∙ (Decides-eqb x.param id).0 e in
         let same : (id == a.param) ≡ true = eq-eqb id a.param (sym named) in
-        let found : sample_of a.param m.act ≡ Some (sample slot v) = sampled a.param ∙ ap (λ b. if b then Some (sample slot v) else None) same in
-        (q.0 ∙ sym named, subst (λ l. AreTotals l y.stat)
-            (sym (samples-more a.param (if nat_lt (start_after s moments) a.added then a.added else start_after s moments) m moments (sample slot v) (cut-below a g) found))
-            (q.1 (samples_above a.param (if nat_lt (start_after s moments) a.added then a.added else start_after s moments) moments) p.1))
+        let found : sample_of a.param m.act ≡ Some (sample slot v) = sampled a.param ∙ ap (λ b. if b then Some (sample slot v) else None) same in (
+          q.0 ∙ sym named,
+          subst (λ l. AreTotals l y.stat)
+              (sym (samples-more a.param (if nat_lt (start_after s moments) a.added then a.added else start_after s moments) m moments (sample slot v) (cut-below a g) found))
+              (q.1 (samples_above a.param (if nat_lt (start_after s moments) a.added then a.added else start_after s moments) moments) p.1),
+        )
     go a x y g p false e q =
         let other : (id == a.param) ≡ false = eqb-other a.param id (ap (λ n. n == id) (sym p.0) ∙ e) in
         let missing : sample_of a.param m.act ≡ None = sampled a.param ∙ ap (λ b. if b then Some (sample slot v) else None) other in

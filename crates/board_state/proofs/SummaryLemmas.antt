@@ -43,7 +43,7 @@ report-honest s moments x tag r h k =
           (filter (λ m. has_samples (samples_of (state_after s moments) moments m)) (state_after s moments).statistics.members) (filter is_sampled x.members) r.rows
           (all-true (filter (λ m. has_samples (samples_of (state_after s moments) moments m)) (state_after s moments).statistics.members))
           (zip-filter (IsMember (state_after s moments) moments) (λ m. has_samples (samples_of (state_after s moments) moments m)) is_sampled
-              (λ a b p. ap (nat_lt 0) p.1.count ∙ sym (has-some (samples_of (state_after s moments) moments a))) (state_after s moments).statistics.members x.members h.members)
+          (λ a b p. ap (nat_lt 0) p.1.count ∙ sym (has-some (samples_of (state_after s moments) moments a))) (state_after s moments).statistics.members x.members h.members)
           k.rows;
     }
   where
@@ -117,7 +117,7 @@ samples-few id tag (m ∷ ms) = go (sample_above id tag m) (samples-few id tag m
     go None h = omega (arith, h)
     go (Some x) h =
         let e : length (reverse (x ∷ filter_map (sample_above id tag) ms)) ≡ length (samples_above id tag ms) + 1 =
-            ap length (reverse-append (x ∷ []) (filter_map (sample_above id tag) ms)) ∙ length-append (samples_above id tag ms) (x ∷ []) in
+        ap length (reverse-append (x ∷ []) (filter_map (sample_above id tag) ms)) ∙ length-append (samples_above id tag ms) (x ∷ []) in
         omega (arith, e, h)
 
 pub zip-each : {A B : Type 0} (P : A → B → Type 0) (Q : B → Type 0) → ((a : A) (b : B) → P a b → Q b) → (xs : List A) (ys : List B) → AllZip P xs ys → AllByRecursion Q ys

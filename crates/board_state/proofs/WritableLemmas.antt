@@ -206,8 +206,8 @@ module _ (s : Session) (slot : ℕ) (moments : List Moment) (fit : IsFit (tailor
           let shape = (parameter-fit (tailoring s) ready.0.member.param p fit found).0.shape in
           let numeric = numeric-known (tailoring s) ready.0.among m.param p ready.0.stands here in
           let octets = all-so (IsSampleOf (tailoring s) slot ready.0.member.param) (InOctets p)
-              (λ y k. fits-in_octets p y.value shape (subst (λ z. fits z y.value ≡ true) (same_Some k.1.0 p (sym k.1.1 ∙ found)) k.1.2))
-              (samples_of (state_after s moments) moments ready.0.member) each in
+          (λ y k. fits-in_octets p y.value shape (subst (λ z. fits z y.value ≡ true) (same_Some k.1.0 p (sym k.1.1 ∙ found)) k.1.2))
+          (samples_of (state_after s moments) moments ready.0.member) each in
           subst (λ o. IfSome o (λ z. IsInOctets z.form (z.octets + (tailoring s).widths.mean_fraction) w.mean)) (sym (ap (parameter (tailoring s)) named ∙ found))
           (subst (IsInOctets p.form (p.octets + (tailoring s).widths.mean_fraction)) (sym sum.mean)
           (mean-fits p (tailoring s).widths.mean_fraction (samples_of (state_after s moments) moments ready.0.member) shape numeric some octets))

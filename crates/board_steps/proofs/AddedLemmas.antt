@@ -1,9 +1,8 @@
 -- The moments that a step adds, one by one: their samples, and the requests that wait then.
-use Rattle.std.proofs.Common.{arith, ◌≡◌, ℕ, zero, suc, ◌+◌, ◌<◌, ◌≤◌, refl, sym, ◌∙◌, ap, ap₂, subst, List, [], ◌∷◌, ◌++◌, length, reverse, map, cond, Bool, true, false, ◌==◌, ◌&&◌, ◌||◌, Option, Some, None, filter, take, length-append}
-use Rattle.std.specs.Prelude.{⊤, ℤ, pos, IfSome, is_some, find, filter_map, unwrap_or, if◌then◌else◌}
+use Rattle.std.proofs.Common.{arith, ◌≡◌, ℕ, suc, ◌+◌, ◌<◌, ◌≤◌, refl, sym, ◌∙◌, ap, ap₂, subst, List, [], ◌∷◌, ◌++◌, length, reverse, map, cond, Bool, true, false, ◌==◌, ◌&&◌, ◌||◌, Option, Some, None, filter, take, length-append}
+use Rattle.std.specs.Prelude.{⊤, is_some, find, filter_map, if◌then◌else◌}
 use Rattle.std.specs.List.{AllByRecursion, list_any, range_with_len, cons_option}
-use Rattle.std.specs.Option.{option_or, option_map_or}
-use Rattle.std.proofs.lemmas.Option.{same_Some, none-some}
+use Rattle.std.specs.Option.{option_map_or}
 use Rattle.std.proofs.lemmas.List.{length-map, append_assoc, append-nil, reverse-append}
 use Rattle.std.proofs.lemmas.List.Elements.{filter_map-append}
 use Rattle.std.proofs.lemmas.Bool.{ne_eqb}
@@ -17,9 +16,9 @@ use Rattle.hk_world.specs.declared.moment.Moment.{Moment}
 use Rattle.hk_world.specs.declared.moment.Act.{Act}
 use Rattle.hk_world.specs.declared.moment.Act.TheVariants.{Accepted, TurnedAway, Started, NotStarted, Executed, Completed, Emitted, Filed}
 use Rattle.hk_world.proofs.OrderLemmas.{true_is_not_false, last_act-other}
-use Rattle.board_steps.specs.Cores.{Core, session, next_tag}
+use Rattle.board_steps.specs.Cores.{Core, session}
 use Rattle.board_steps.specs.Slots.{is_filed, is_set}
-use Rattle.board_steps.specs.Plans.{Topic, Plan, does, tells, handled_as, handling, prepared, is_barred, execution, next_acts, worked_request, worked_acts, worked_done, topics_of, done_of, settables, own_filing, due_topics, tags_left, planned}
+use Rattle.board_steps.specs.Plans.{Topic, Plan, does, tells, handled_as, handling, prepared, is_barred, execution, next_acts, worked_request, worked_acts, worked_done, topics_of, settables, own_filing, due_topics, tags_left, planned}
 use Rattle.board_steps.specs.Steps.{IsNext, AreNext, IsStep}
 use Rattle.board_steps.specs.Timeline.{Stands, IsFiledBy, AreFiledBy}
 use Rattle.board_steps.specs.SlotRuns.{waiting, filed_sample, filings}

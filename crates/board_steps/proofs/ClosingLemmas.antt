@@ -1,13 +1,12 @@
 -- The end of a slot: the values of settable parameters are filed, and the reports that are due are honest.
-use Rattle.std.proofs.Common.{arith, ◌≡◌, ℕ, zero, suc, ◌+◌, ◌-◌, ◌*◌, ◌/◌, ◌%◌, ◌<◌, ◌≤◌, refl, sym, ◌∙◌, ap, subst, List, [], ◌∷◌, ◌++◌, length, map, take, cond, Bool, true, false, ◌==◌, ◌&&◌, ◌||◌, Option, Some, None, ◌⊎◌, inl, inr, filter, mod-eq_of_lt}
-use Rattle.std.specs.Prelude.{⊤, ℤ, pos, IfSome, IsTrue, IsFalse, nat_eq, nat_le, find, unwrap_or, if◌then◌else◌}
+use Rattle.std.proofs.Common.{arith, ◌≡◌, ℕ, zero, suc, ◌+◌, ◌-◌, ◌*◌, ◌/◌, ◌%◌, ◌<◌, ◌≤◌, refl, sym, ◌∙◌, ap, subst, List, [], ◌∷◌, ◌++◌, length, map, take, cond, Bool, true, false, ◌==◌, ◌&&◌, Option, Some, None, ◌⊎◌, inl, inr, filter, mod-eq_of_lt}
+use Rattle.std.specs.Prelude.{⊤, ℤ, pos, IsTrue, IsFalse, nat_eq, nat_le, find, unwrap_or, if◌then◌else◌}
 use Rattle.std.specs.List.{AllByRecursion, IsDistinct}
 use Rattle.std.specs.Option.{option_map_or}
-use Rattle.std.proofs.lemmas.Option.{same_Some, none-some}
 use Rattle.std.proofs.lemmas.Bool.{cases_lt, or_cases, eq-eqb, ne_eqb}
-use Rattle.std.proofs.lemmas.Bool.Decides.{Decides-eqb, nat_tests}
+use Rattle.std.proofs.lemmas.Bool.Decides.{Decides-eqb}
 use Rattle.std.proofs.Math.Nat.{div-lt_iff_lt-mul, le-div_iff_mul-le}
-use Rattle.hk_base.specs.Fit.{IsFit, greatest_tag, slot_of}
+use Rattle.hk_base.specs.Fit.{IsFit, greatest_tag}
 use Rattle.hk_base.specs.TailoringParts.{TailoringParts}
 use Rattle.hk_base.specs.Parameters.{parameter, is_settable, fits}
 use Rattle.hk_base.specs.declared.types.Key.{Key}
@@ -15,7 +14,7 @@ use Rattle.hk_base.specs.declared.types.Param.{Param}
 use Rattle.hk_base.specs.declared.types.Structure.{Structure}
 use Rattle.hk_base.proofs.Membership.{AllByRecursion-append}
 use Rattle.body_fields.specs.Spelling.{AreOctets}
-use Rattle.hk_world.specs.Timelines.{Session, tailoring, done_by, state_after}
+use Rattle.hk_world.specs.Timelines.{done_by, state_after}
 use Rattle.hk_world.specs.Legal.{is_filing}
 use Rattle.hk_world.specs.declared.moment.Moment.{Moment}
 use Rattle.hk_world.specs.declared.moment.Act.{Act}
@@ -23,8 +22,8 @@ use Rattle.hk_world.specs.declared.moment.Act.TheVariants.{Accepted, TurnedAway,
 use Rattle.hk_world.proofs.OrderLemmas.{true_is_not_false}
 use Rattle.board_steps.specs.Cores.{Core, session, state_of, pending, next_tag}
 use Rattle.board_steps.specs.Slots.{first_slot, ends_interval, is_spent, is_due, is_statistics_due, is_complete, is_set}
-use Rattle.board_steps.specs.Plans.{Topic, samples_of, structure_of, properties_of, statistics, definitions, values_of, Plan, does, tells, settables, own_filing, every_key, is_reported, due_topics, tags_left, closing}
-use Rattle.board_steps.specs.Steps.{IsNext, AreNext}
+use Rattle.board_steps.specs.Plans.{Topic, samples_of, structure_of, properties_of, statistics, definitions, values_of, does, tells, settables, own_filing, every_key, is_reported, due_topics, tags_left, closing}
+use Rattle.board_steps.specs.Steps.{AreNext}
 use Rattle.board_steps.proofs.GrammarLemmas.{RequestsOnly}
 use Rattle.board_steps.proofs.TimeLemmas.{all-mapped, IsGood, IsFiledBy, AreFiledBy, are-filed-later, next-tag-more}
 use Rattle.board_steps.proofs.ValueLemmas.{settable-value, still-set, still-structure}

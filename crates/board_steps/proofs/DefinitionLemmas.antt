@@ -1,6 +1,6 @@
 -- A structure that is due, by a one-shot too, has had its definition since the interval began.
-use Rattle.std.proofs.Common.{arith, ◌≡◌, ℕ, ◌+◌, ◌-◌, ◌*◌, ◌/◌, ◌<◌, ◌≤◌, refl, sym, ◌∙◌, ap, ap₂, subst, List, [], ◌∷◌, ◌++◌, length, map, take, replicate, cond, Bool, true, false, ◌==◌, ◌&&◌, ◌||◌, Option, Some, None, ◌⊎◌, inl, inr}
-use Rattle.std.specs.Prelude.{⊤, nat_lt, is_some, option_map, if◌then◌else◌}
+use Rattle.std.proofs.Common.{arith, ◌≡◌, ℕ, ◌+◌, ◌-◌, ◌*◌, ◌/◌, ◌<◌, ◌≤◌, refl, sym, ◌∙◌, ap, ap₂, subst, List, [], ◌∷◌, ◌++◌, length, map, take, replicate, cond, Bool, true, false, ◌==◌, ◌&&◌, Option, Some, None, ◌⊎◌, inl, inr}
+use Rattle.std.specs.Prelude.{nat_lt, if◌then◌else◌}
 use Rattle.std.specs.List.{AllByRecursion, cons_option}
 use Rattle.std.specs.Option.{option_map_or}
 use Rattle.std.proofs.lemmas.Option.{same_Some, none-some}
@@ -11,23 +11,22 @@ use Rattle.hk_base.specs.Fit.{IsFit, slot_of}
 use Rattle.hk_base.specs.TailoringParts.{TailoringParts}
 use Rattle.hk_base.specs.Parameters.{key_eq}
 use Rattle.hk_base.specs.declared.types.Key.{Key}
-use Rattle.hk_base.specs.declared.types.Param.{Param}
 use Rattle.hk_base.specs.declared.types.Structure.{Structure}
 use Rattle.st03_grammar.specs.Instructions.{StructureChange, create, append, set_interval, plain}
 use Rattle.st03_grammar.specs.declared.bodies.Each.TheVariants.{Delete, Enable, Disable, Show, OneShot, ShowPeriodic}
 use Rattle.pus_messages.specs.Instructions.{Instruction, on_structure, on_statistics, report_values, set_values}
 use Rattle.report_structures.specs.Effects.{left_by}
 use Rattle.hk_world.specs.States.{structure_left}
-use Rattle.hk_world.specs.Timelines.{EachAfter, Session, tailoring, Done, request_at, last_act, done_by, done_at, done_instructions, structure_after, moments_before, state_at}
+use Rattle.hk_world.specs.Timelines.{EachAfter, Session, tailoring, Done, done_by, done_at, done_instructions, structure_after, moments_before, state_at}
 use Rattle.hk_world.specs.Worlds.{MayHappen}
 use Rattle.hk_world.specs.declared.moment.Moment.{Moment}
 use Rattle.hk_world.specs.declared.moment.Act.{Act}
 use Rattle.hk_world.proofs.OrderLemmas.{true_is_not_false}
-use Rattle.board_steps.specs.Cores.{Core, session, state_of, new_core, pending, next_tag}
+use Rattle.board_steps.specs.Cores.{Core, session, state_of, pending, next_tag}
 use Rattle.board_steps.specs.Slots.{begins_intervals, begins_intervals_of, slot_after, is_spent, is_due, one_shot_changed, one_shot_by_instruction}
 use Rattle.board_steps.specs.Plans.{Topic, Plan, does, tells, handled_as, prepared, worked_request, worked_acts, topics_of, done_of, settables, due_topics, tags_left, planned, one_shot_by}
 use Rattle.board_steps.specs.Steps.{AreNext, IsStep}
-use Rattle.board_steps.specs.Runs.{IsMade, IsRun}
+use Rattle.board_steps.specs.Runs.{IsRun}
 use Rattle.board_steps.specs.Timeline.{Stands, AreBelow}
 use Rattle.board_steps.specs.declared.event.Event.{Event}
 use Rattle.board_steps.specs.declared.event.Event.TheVariants.{Uplink, Clock, Work, Filing, CloseSlot}

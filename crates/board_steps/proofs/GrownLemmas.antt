@@ -1,16 +1,13 @@
 -- A session with other packets under numbers that no moment names, whose start is known or not: what was done stays legal and honest. So it does where packets are added.
-use Rattle.std.proofs.Common.{arith, ◌≡◌, ℕ, zero, suc, ◌+◌, ◌-◌, ◌*◌, ◌/◌, ◌%◌, ◌^◌, ◌<◌, ◌≤◌, refl, sym, ◌∙◌, ap, ap₂, subst, List, [], ◌∷◌, ◌++◌, length, filter, map, Bool, true, false, ◌==◌, ◌&&◌, ◌||◌, Option, Some, None, Ok, Err, ◌⊎◌, inl, inr}
-use Rattle.std.specs.Prelude.{⊤, ℤ, IfSome, IsSome, IsNone, IsTrue, IsFalse, MatchBool, unwrap_or, nat_lt, is_none, slice_get, filter_map, option_and_then, option_map, if◌then◌else◌}
-use Rattle.std.specs.List.{AllByRecursion, AllZip, list_any, cons_option}
+use Rattle.std.proofs.Common.{arith, ◌≡◌, ℕ, zero, suc, ◌/◌, ◌%◌, ◌^◌, ◌<◌, refl, sym, ◌∙◌, ap, ap₂, subst, List, [], ◌∷◌, ◌++◌, length, filter, map, Bool, true, false, ◌==◌, ◌&&◌, Option, Some, None}
+use Rattle.std.specs.Prelude.{IfSome, IsSome, IsNone, MatchBool, unwrap_or, nat_lt, is_none, slice_get, option_and_then, option_map, if◌then◌else◌}
+use Rattle.std.specs.List.{AllByRecursion, AllZip, cons_option}
 use Rattle.std.specs.Option.{option_or, option_map_or}
 use Rattle.std.specs.Result.{result_ok}
-use Rattle.hk_base.specs.TailoringParts.{TailoringParts}
-use Rattle.hk_base.specs.Parameters.{parameter, is_settable, fits}
-use Rattle.hk_base.specs.declared.types.Param.{Param}
+use Rattle.hk_base.specs.Parameters.{parameter, is_settable}
 use Rattle.hk_base.specs.declared.types.RequestId.{RequestId}
 use Rattle.statistics.specs.Summaries.{IsSummary}
 use Rattle.st01_reports.specs.declared.verification.Cause.{Cause}
-use Rattle.st01_reports.specs.declared.verification.Verification.{Verification}
 use Rattle.st01_reports.specs.declared.verification.Verification.TheVariants as verify
 use Rattle.st03_grammar.specs.declared.bodies.PeriodicRow.{PeriodicRow}
 use Rattle.st03_grammar.specs.declared.bodies.Report03.TheVariants as hk
@@ -21,10 +18,10 @@ use Rattle.pus_messages.specs.declared.message.Request.{Request}
 use Rattle.pus_messages.specs.declared.message.ReportBody.{ReportBody}
 use Rattle.pus_messages.specs.declared.message.ReportBody.TheVariants.{Verify, Hk, Stat, Par}
 use Rattle.report_structures.specs.declared.refusal.Refusal.{Refusal}
-use Rattle.hk_world.specs.States.{Member, BoardState, boot_state, refusal}
-use Rattle.hk_world.specs.Timelines.{EachAfter, Session, tailoring, Done, request_at, instructions_at, instruction_at, request_number, last_act, done_by, done_at, done_instructions, structure_after, statistics_after, set_value, filed_value, first_some, restarts, start_after, state_after}
-use Rattle.hk_world.specs.Legal.{TagRises, HandlesNext, HandledBelow, IsRejected, MayFollow, is_pending, begins, IsInOrder, TellsOutcome, IsSample, FilesSample, is_acceptance, is_filing, refused_numbers}
-use Rattle.hk_world.specs.Honest.{Carries, VerifiesIf, IsReport, IsSilent, IsHonestBody, IsParameterReport, IsPeriodicRow, IsStatRow, IsStatisticsReport, IsFiled, cause_of, id_of_packet, samples_of, has_samples}
+use Rattle.hk_world.specs.States.{Member, BoardState, refusal}
+use Rattle.hk_world.specs.Timelines.{EachAfter, Session, tailoring, Done, request_number, last_act, done_by, done_instructions, structure_after, statistics_after, set_value, filed_value, first_some, restarts, start_after, state_after}
+use Rattle.hk_world.specs.Legal.{HandlesNext, MayFollow, IsInOrder, TellsOutcome, FilesSample}
+use Rattle.hk_world.specs.Honest.{Carries, VerifiesIf, IsReport, IsSilent, IsHonestBody, IsPeriodicRow, IsStatRow, cause_of, id_of_packet, samples_of, has_samples}
 use Rattle.hk_world.specs.Worlds.{MayHappen}
 pub use Rattle.board_steps.specs.Timeline.{IsBelow, AreBelow, exchanged, on_ground, Agrees, AgreeOn}
 use Rattle.hk_world.specs.declared.moment.Moment.{Moment}

@@ -1,6 +1,5 @@
 -- The reports of a board are counted one by one, all together and by message type.
-use Rattle.std.proofs.Common.{arith, ◌≡◌, ℕ, suc, ◌%◌, refl, sym, ◌∙◌, ap, ap₂, subst, List, [], ◌∷◌, length, map, cond, Bool, true, false, ◌==◌, ◌&&◌, Option, Some, None, filter}
-use Rattle.std.specs.Prelude.{⊤, filter_map}
+use Rattle.std.proofs.Common.{◌≡◌, ℕ, ◌%◌, refl, sym, ◌∙◌, ap, ap₂, subst, List, [], ◌∷◌, length, map, cond, Bool, true, false, ◌==◌, ◌&&◌, Option, Some, None}
 use Rattle.std.specs.List.{cons_option}
 use Rattle.std.proofs.lemmas.Bool.{and_parts}
 use Rattle.std.proofs.lemmas.Bool.Decides.{Decides-eqb}

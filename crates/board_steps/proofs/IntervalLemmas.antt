@@ -1,6 +1,6 @@
 -- A structure that is due has been what it is since its interval began.
-use Rattle.std.proofs.Common.{arith, ◌≡◌, ℕ, ◌+◌, ◌-◌, ◌*◌, ◌/◌, ◌%◌, ◌<◌, ◌≤◌, refl, sym, ◌∙◌, ap, subst, List, [], ◌∷◌, cond, Bool, true, false, ◌==◌, ◌&&◌, ◌||◌, Option, Some, None, filter, ◌⊎◌, inl, inr}
-use Rattle.std.specs.Prelude.{⊤, nat_le, nat_lt, find, option_map, if◌then◌else◌}
+use Rattle.std.proofs.Common.{arith, ◌≡◌, ℕ, ◌+◌, ◌-◌, ◌*◌, ◌/◌, ◌%◌, ◌<◌, ◌≤◌, refl, sym, ◌∙◌, ap, subst, List, [], ◌∷◌, cond, Bool, true, false, ◌==◌, ◌&&◌, ◌||◌, Option, Some, None}
+use Rattle.std.specs.Prelude.{nat_le, nat_lt, find, option_map, if◌then◌else◌}
 use Rattle.std.specs.List.{AllByRecursion, cons_option}
 use Rattle.std.specs.Option.{option_map_or}
 use Rattle.std.proofs.lemmas.Option.{same_Some, none-some}
@@ -13,11 +13,10 @@ use Rattle.hk_base.specs.Parameters.{key_eq}
 use Rattle.hk_base.specs.declared.types.Key.{Key}
 use Rattle.hk_base.specs.declared.types.Structure.{Structure}
 use Rattle.st03_grammar.specs.Instructions.{StructureChange, create, append, set_interval, plain}
-use Rattle.st03_grammar.specs.declared.bodies.Each.{Each}
 use Rattle.st03_grammar.specs.declared.bodies.Each.TheVariants.{Delete, Enable, Disable, Show, OneShot, ShowPeriodic}
 use Rattle.pus_messages.specs.Instructions.{Instruction, on_structure, on_statistics, report_values, set_values}
 use Rattle.report_structures.specs.Effects.{left_by}
-use Rattle.hk_world.specs.States.{BoardState, structure_left}
+use Rattle.hk_world.specs.States.{structure_left}
 use Rattle.hk_world.specs.Timelines.{EachAfter, Session, tailoring, Done, instruction_at, done_by, done_at, done_instructions, structure_after, moments_before, state_at}
 use Rattle.hk_world.specs.Worlds.{MayHappen}
 use Rattle.hk_world.specs.declared.moment.Moment.{Moment}

@@ -1,9 +1,9 @@
 -- The moments of a board are within their ranges.
-use Rattle.std.proofs.Common.{arith, ◌≡◌, ℕ, zero, suc, ◌+◌, ◌-◌, ◌*◌, ◌^◌, ◌<◌, ◌≤◌, refl, sym, ◌∙◌, ap, ap₂, subst, List, [], ◌∷◌, ◌++◌, length, reverse, Bool, true, false, ◌==◌, Option, Some, None, Result, Ok, Err, ◌⊎◌, inl, inr}
+use Rattle.std.proofs.Common.{arith, ◌≡◌, ℕ, zero, suc, ◌+◌, ◌-◌, ◌*◌, ◌^◌, ◌<◌, ◌≤◌, refl, sym, ◌∙◌, ap, subst, List, [], ◌∷◌, length, reverse, Bool, true, false, ◌==◌, Option, Some, None, Result, Ok, Err, ◌⊎◌, inl, inr}
 use Rattle.std.specs.Prelude.{⊤, ℤ, pos, negsuc, IfSome, filter_map, slice_get, option_and_then, if◌then◌else◌}
 use Rattle.std.specs.List.{AllByRecursion, cons_option}
 use Rattle.std.specs.Option.{option_map_or}
-use Rattle.std.proofs.lemmas.Option.{same_Some, none-some, slice_get_within}
+use Rattle.std.proofs.lemmas.Option.{none-some, slice_get_within}
 use Rattle.std.proofs.lemmas.List.{reverse-append, length-reverse}
 use Rattle.std.proofs.Math.Nat.{pow-le-pow_right}
 use Rattle.hk_base.specs.Fields.{FitsSignedOctets}
@@ -18,8 +18,7 @@ use Rattle.body_fields.specs.Spelling.{AreOctets, IsInOctets}
 use Rattle.body_fields.proofs.FitLemmas.{parameter-fit, fits-in_octets}
 use Rattle.pus_messages.specs.Instructions.{Instruction, instructions, instruction}
 use Rattle.pus_messages.specs.Messages.{protocol, report_of, reception_by, reception_from}
-use Rattle.pus_messages.specs.Messages as messages
-use Rattle.pus_messages.specs.Protocol.{Reception, foreign, readable}
+use Rattle.pus_messages.specs.Protocol.{foreign, readable}
 use Rattle.pus_messages.specs.Spelling.{IsReportPacket}
 use Rattle.pus_packet.specs.Packets.{process_of}
 use Rattle.pus_messages.specs.declared.message.MessageFault.{MessageFault}
@@ -27,15 +26,15 @@ use Rattle.pus_messages.specs.declared.message.MessageFault.TheVariants as fault
 use Rattle.pus_messages.specs.declared.message.Report.{Report}
 use Rattle.pus_messages.specs.declared.message.ReportBody.{ReportBody}
 use Rattle.pus_messages.specs.declared.message.Request.{Request}
-use Rattle.hk_world.specs.Timelines.{EachAfter, Session, tailoring, request_at, instructions_at, instruction_at, request_number, is_act_of, last_act}
-use Rattle.hk_world.specs.Legal.{MayFollow, IsInOrder, TellsOutcome, FilesSample, refused_number, refused_numbers}
+use Rattle.hk_world.specs.Timelines.{EachAfter, Session, request_at, instructions_at, instruction_at, request_number, is_act_of, last_act}
+use Rattle.hk_world.specs.Legal.{MayFollow, IsInOrder, TellsOutcome, FilesSample, refused_number}
 use Rattle.hk_world.specs.Honest.{Carries, IsReport}
 use Rattle.hk_world.specs.Worlds.{MayHappen}
 use Rattle.hk_world.specs.declared.moment.Moment.{Moment}
 use Rattle.hk_world.specs.declared.moment.Act.{Act}
 use Rattle.hk_world.specs.declared.moment.Act.TheVariants.{Accepted, TurnedAway, Started, NotStarted, Executed, Completed, Emitted, Filed}
-use Rattle.hk_world.proofs.OrderLemmas.{true_is_not_false, last_act-other, is_act_of-number}
-use Rattle.hk_world.proofs.RequestLemmas.{IsOf, last_act-own, in_order-of}
+use Rattle.hk_world.proofs.OrderLemmas.{last_act-other, is_act_of-number}
+use Rattle.hk_world.proofs.RequestLemmas.{last_act-own, in_order-of}
 use Rattle.board_steps.specs.Cores.{Core, session}
 use Rattle.board_steps.specs.Timeline.{Stands, IsBelow, AreBelow, IsFiledBy, AreFiledBy}
 use Rattle.board_steps.specs.Added.{IsActWithin, IsWithin, IsJournal}

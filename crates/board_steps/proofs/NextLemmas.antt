@@ -1,19 +1,14 @@
 -- One moment more: an act, or a report that isn't a verification report.
-use Rattle.std.proofs.Common.{arith, ◌≡◌, ℕ, ◌+◌, ◌-◌, ◌*◌, ◌<◌, ◌≤◌, refl, sym, ◌∙◌, ap, subst, List, [], ◌∷◌, length, map, Bool, true, false, Option, Some, None}
-use Rattle.std.specs.Prelude.{⊤, ℤ, IfSome}
-use Rattle.std.specs.List.{AllByRecursion, AllZip}
+use Rattle.std.proofs.Common.{arith, ◌≡◌, ℕ, ◌+◌, ◌-◌, ◌≤◌, refl, sym, subst, List, ◌∷◌, length, Some}
+use Rattle.std.specs.Prelude.{⊤, IfSome}
+use Rattle.std.specs.List.{AllZip}
 use Rattle.hk_base.specs.Fit.{greatest_tag, slot_of}
 use Rattle.hk_base.specs.Payload.{places}
-use Rattle.hk_base.specs.declared.types.Key.{Key}
 use Rattle.hk_base.specs.declared.types.Structure.{Structure}
-use Rattle.st03_grammar.specs.declared.bodies.Report03.TheVariants as hk
-use Rattle.st04_grammar.specs.declared.bodies.Report04.TheVariants as stat
 use Rattle.pus_messages.specs.declared.message.ReportBody.{ReportBody}
-use Rattle.pus_messages.specs.declared.message.ReportBody.TheVariants.{Hk, Stat, Par}
-use Rattle.hk_world.specs.Timelines.{EachAfter, Session, tailoring, request_number, state_after}
-use Rattle.hk_world.specs.Legal.{TagRises, HandlesNext, IsInOrder, TellsOutcome, FilesSample}
+use Rattle.hk_world.specs.Timelines.{Session, tailoring, request_number, state_after}
+use Rattle.hk_world.specs.Legal.{HandlesNext, IsInOrder, TellsOutcome, FilesSample}
 use Rattle.hk_world.specs.Honest.{Carries, IsHonestBody, IsFiled}
-use Rattle.hk_world.specs.Worlds.{MayHappen}
 use Rattle.hk_world.specs.declared.moment.Moment.{Moment}
 use Rattle.hk_world.specs.declared.moment.Act.{Act}
 use Rattle.hk_world.specs.declared.moment.Act.TheVariants.{Emitted}

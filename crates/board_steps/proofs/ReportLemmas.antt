@@ -1,6 +1,6 @@
 -- The parameter reports that a step adds are those that are due.
-use Rattle.std.proofs.Common.{arith, ◌≡◌, ℕ, zero, suc, ◌+◌, ◌-◌, ◌*◌, ◌<◌, ◌≤◌, max, refl, sym, ◌∙◌, ap, ap₂, subst, List, [], ◌∷◌, ◌++◌, length, reverse, map, take, cond, Bool, true, false, ◌==◌, ◌&&◌, ◌||◌, Option, Some, None, filter, ◌⊎◌, inl, inr}
-use Rattle.std.specs.Prelude.{⊤, ℤ, pos, MatchBool, is_some, nat_lt, find, filter_map, option_map, unwrap_or, if◌then◌else◌}
+use Rattle.std.proofs.Common.{arith, ◌≡◌, ℕ, zero, suc, ◌+◌, ◌-◌, ◌*◌, ◌≤◌, refl, sym, ◌∙◌, ap, ap₂, subst, List, [], ◌∷◌, ◌++◌, length, reverse, map, take, cond, Bool, true, false, ◌==◌, ◌&&◌, ◌||◌, Option, Some, None, filter, ◌⊎◌, inl, inr}
+use Rattle.std.specs.Prelude.{⊤, ℤ, pos, MatchBool, is_some, nat_lt, find, option_map, unwrap_or, if◌then◌else◌}
 use Rattle.std.specs.List.{AllByRecursion, list_all, list_any, cons_option}
 use Rattle.std.specs.Option.{option_or, option_map_or}
 use Rattle.std.proofs.lemmas.Bool.Decides.{Decides-eqb, nat_tests}
@@ -8,29 +8,22 @@ use Rattle.std.proofs.lemmas.List.{reverse-reverse, append_cancel_right}
 use Rattle.std.proofs.lemmas.List.Folds.{list_any-append}
 use Rattle.hk_base.specs.Fit.{IsFit}
 use Rattle.hk_base.specs.TailoringParts.{TailoringParts}
-use Rattle.hk_base.specs.Parameters.{parameter, is_settable}
+use Rattle.hk_base.specs.Parameters.{is_settable}
 use Rattle.hk_base.specs.Payload.{places}
 use Rattle.hk_base.specs.declared.types.Definition.{Definition}
 use Rattle.hk_base.specs.declared.types.Key.{Key}
 use Rattle.hk_base.specs.declared.types.Param.{Param}
 use Rattle.hk_base.specs.declared.types.Place.{Place}
-use Rattle.pus_packet.specs.declared.header.TmHeader.{TmHeader}
 use Rattle.st01_reports.specs.declared.verification.Cause.{Cause}
 use Rattle.st01_reports.specs.declared.verification.Verification.{Verification}
 use Rattle.st01_reports.specs.declared.verification.Verification.TheVariants as verify
-use Rattle.st03_grammar.specs.declared.bodies.PeriodicRow.{PeriodicRow}
-use Rattle.st03_grammar.specs.declared.bodies.Report03.TheVariants as hk
-use Rattle.st04_grammar.specs.declared.bodies.StatReport.{StatReport}
-use Rattle.st04_grammar.specs.declared.bodies.Report04.TheVariants as stat
-use Rattle.st20_grammar.specs.declared.bodies.Setting.{Setting}
 use Rattle.pus_messages.specs.Instructions.{Instruction}
 use Rattle.pus_messages.specs.Messages.{protocol}
-use Rattle.pus_messages.specs.Protocol.{Protocol, Reception, readable}
-use Rattle.pus_messages.specs.declared.message.Report.{Report}
+use Rattle.pus_messages.specs.Protocol.{Protocol}
 use Rattle.pus_messages.specs.declared.message.ReportBody.{ReportBody}
 use Rattle.pus_messages.specs.declared.message.ReportBody.TheVariants.{Verify, Hk, Stat, Par}
 use Rattle.pus_messages.proofs.Lawful.{nothing}
-use Rattle.hk_world.specs.Timelines.{Session, tailoring, request_at, instruction_at, request_number, last_act, first_some}
+use Rattle.hk_world.specs.Timelines.{Session, request_at, instruction_at, request_number}
 use Rattle.hk_world.specs.Honest.{Carries, VerifiesIf, IsReport, IsSilent, IsRefusedFor, asks_for, has_several, request_id}
 use Rattle.hk_world.specs.declared.moment.Moment.{Moment}
 use Rattle.hk_world.specs.declared.moment.Act.{Act}
@@ -48,7 +41,7 @@ use Rattle.board_steps.proofs.TimeLemmas.{next-tag-more}
 use Rattle.board_steps.proofs.RunLemmas.{session_by, packet-tailoring}
 use Rattle.board_steps.proofs.WorkLemmas.{IsOrdered, all-ordered}
 use Rattle.board_steps.proofs.ClosingLemmas.{AreIdsApart, distinct-apart}
-use Rattle.board_steps.proofs.AddedLemmas.{AreAdded, step-parted, acts-of-requests, worked-of-requests, handling-of-request}
+use Rattle.board_steps.proofs.AddedLemmas.{AreAdded, step-parted, worked-of-requests, handling-of-request}
 
 -- what a moment's packet can be: none, or a report
 abbrev pub IsNoneOr : (ReportBody → Type 0) → Session → Moment → Type 0

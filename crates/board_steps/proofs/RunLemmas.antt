@@ -1,24 +1,22 @@
 -- Whatever events come, what a board has done is a legal and honest timeline.
-use Rattle.std.proofs.Common.{arith, ◌≡◌, ℕ, zero, suc, ◌+◌, ◌-◌, ◌*◌, ◌^◌, ◌<◌, ◌≤◌, max, refl, sym, ◌∙◌, ap, subst, List, [], ◌∷◌, ◌++◌, length, length-append, replicate, map, Bool, true, false, ◌==◌, ◌&&◌, ◌||◌, Option, Some, None, Ok, Err, ◌⊎◌, inl, inr}
-use Rattle.std.specs.Prelude.{⊤, ℤ, IfSome, IsSome, IsFalse, is_some, nat_le, nat_lt, find, slice_get, option_and_then, if◌then◌else◌}
-use Rattle.std.specs.List.{AllByRecursion, list_any, range_with_len}
+use Rattle.std.proofs.Common.{arith, ◌≡◌, ℕ, zero, suc, ◌+◌, ◌-◌, ◌*◌, ◌^◌, ◌<◌, ◌≤◌, max, refl, sym, ◌∙◌, ap, subst, List, [], ◌∷◌, ◌++◌, length, length-append, replicate, Bool, true, false, ◌==◌, ◌&&◌, ◌||◌, Option, Some, None, ◌⊎◌, inl, inr}
+use Rattle.std.specs.Prelude.{IfSome, IsFalse, is_some, nat_le, nat_lt, option_and_then, if◌then◌else◌}
+use Rattle.std.specs.List.{AllByRecursion, list_any}
 use Rattle.std.specs.Option.{option_map_or}
 use Rattle.std.proofs.lemmas.Option.{same_Some, none-some}
 use Rattle.std.proofs.lemmas.List.{length-replicate}
 use Rattle.std.proofs.lemmas.Bool.Decides.{nat_tests}
-use Rattle.std.proofs.lemmas.Bool.{or_cases, ltb-false}
+use Rattle.std.proofs.lemmas.Bool.{ltb-false}
 use Rattle.hk_base.specs.Fit.{IsFit, greatest_tag}
 use Rattle.hk_base.specs.TailoringParts.{TailoringParts}
-use Rattle.hk_base.specs.Parameters.{parameter, is_settable}
+use Rattle.hk_base.specs.Parameters.{is_settable}
 use Rattle.hk_base.proofs.Membership.{AllByRecursion-append}
 use Rattle.body_fields.specs.Spelling.{AreOctets}
 use Rattle.pus_packet.specs.declared.header.TcHeader.{TcHeader}
-use Rattle.pus_messages.specs.Instructions.{instructions}
 use Rattle.pus_messages.specs.Messages.{protocol}
 use Rattle.pus_messages.proofs.Lawful.{lawful}
-use Rattle.pus_messages.specs.declared.message.Request.{Request}
 use Rattle.hk_world.specs.States.{boot_state}
-use Rattle.hk_world.specs.Timelines.{EachAfter, Session, tailoring, request_at, instructions_at, request_number, is_act_of, last_act}
+use Rattle.hk_world.specs.Timelines.{EachAfter, Session, request_at, instructions_at, request_number, last_act}
 use Rattle.hk_world.specs.Legal.{HandledBelow, handled_number, is_pending, MayFollow, is_filing, IsLegal}
 use Rattle.hk_world.specs.Honest.{IsHonest, Carries}
 use Rattle.hk_world.specs.Worlds.{MayHappen}
@@ -28,16 +26,15 @@ use Rattle.hk_world.specs.declared.moment.Act.{Act}
 use Rattle.hk_world.specs.declared.moment.Act.TheVariants.{Accepted, TurnedAway, Started, NotStarted, Executed, Completed, Emitted, Filed}
 use Rattle.hk_world.proofs.OrderLemmas.{true_is_not_false, last_act-other}
 use Rattle.board_steps.specs.Cores.{Core, session, new_core, next_tag}
-use Rattle.board_steps.specs.Slots.{is_set, is_filed}
-use Rattle.board_steps.specs.Plans.{Plan, does, tells, is_handled, handled_as, with_request, end_of_slot, prepared, handling, worked_request, next_acts, worked_acts, worked_done, done_of, topics_of, planned, slot_after_event}
-use Rattle.board_steps.specs.Steps.{IsNext, AreNext, IsStep, MayFile, IsEvent, is_closing, is_late}
+use Rattle.board_steps.specs.Plans.{Plan, does, is_handled, handled_as, with_request, end_of_slot, prepared, handling, worked_request, next_acts, planned, slot_after_event}
+use Rattle.board_steps.specs.Steps.{AreNext, MayFile, is_closing, is_late}
 use Rattle.board_steps.specs.Runs.{IsMade, IsRun}
 use Rattle.board_steps.specs.declared.event.Event.{Event}
 use Rattle.board_steps.specs.declared.event.Event.TheVariants.{Uplink, Clock, Work, Filing, CloseSlot}
 use Rattle.board_steps.specs.declared.event.Sample.{Sample}
-use Rattle.board_steps.proofs.GrownLemmas.{grown, on_ground, AgreeOn, IsBelow, AreBelow, timeline-grown, timeline-ground}
+use Rattle.board_steps.proofs.GrownLemmas.{on_ground, AgreeOn, IsBelow, AreBelow, timeline-grown, timeline-ground}
 use Rattle.board_steps.proofs.GrammarLemmas.{RequestsOnly}
-use Rattle.board_steps.proofs.TimeLemmas.{all-mapped, IsGood, IsFiledBy, are-filed-later, timeline-legal, timeline-honest}
+use Rattle.board_steps.proofs.TimeLemmas.{all-mapped, IsGood, are-filed-later, timeline-legal, timeline-honest}
 use Rattle.board_steps.proofs.ValueLemmas.{request-grammatical}
 use Rattle.board_steps.proofs.NextLemmas.{MayDo, does-next}
 use Rattle.board_steps.proofs.WorkLemmas.{find-range, IsOneAct, acts-next, one-act}

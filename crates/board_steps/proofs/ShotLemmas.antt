@@ -1,6 +1,6 @@
 -- Each pending one-shot is of a structure that is there, and is still to be spent.
-use Rattle.std.proofs.Common.{arith, ◌≡◌, ℕ, ◌+◌, ◌-◌, ◌*◌, ◌/◌, ◌<◌, ◌≤◌, max, refl, sym, ◌∙◌, ap, ap₂, subst, List, [], ◌∷◌, ◌++◌, length, map, take, replicate, Bool, true, false, ◌==◌, Option, Some, None, Result, Ok, Err}
-use Rattle.std.specs.Prelude.{⊤, is_none, is_some, option_map, option_and_then, if◌then◌else◌}
+use Rattle.std.proofs.Common.{arith, ◌≡◌, ℕ, ◌+◌, ◌-◌, ◌*◌, ◌<◌, ◌≤◌, refl, sym, ◌∙◌, ap, ap₂, subst, List, [], ◌∷◌, ◌++◌, length, map, take, replicate, Bool, true, false, ◌==◌, Option, Some, None, Result, Ok}
+use Rattle.std.specs.Prelude.{⊤, is_none, is_some, option_map, if◌then◌else◌}
 use Rattle.std.specs.List.{AllByRecursion, cons_option}
 use Rattle.std.specs.Option.{option_map_or}
 use Rattle.std.specs.Result.{result_err, result_unwrap_or}
@@ -20,7 +20,7 @@ use Rattle.hk_base.specs.declared.types.Param.{Param}
 use Rattle.hk_base.specs.declared.types.Structure.{Structure}
 use Rattle.st03_grammar.specs.Instructions.{StructureChange, create, append, set_interval, plain}
 use Rattle.st03_grammar.specs.declared.bodies.Each.TheVariants.{Delete, Enable, Disable, Show, OneShot, ShowPeriodic}
-use Rattle.pus_messages.specs.Instructions.{Instruction, on_structure, on_statistics, report_values, set_values, instruction}
+use Rattle.pus_messages.specs.Instructions.{Instruction, on_structure, on_statistics, report_values, set_values}
 use Rattle.report_structures.specs.Effects.{effect, left_by, state_unless, if_enabled, if_doubled, if_uneven, if_too_many, if_too_wide, extended_definition, with_definition}
 use Rattle.report_structures.specs.declared.refusal.Refusal.{Refusal}
 use Rattle.report_structures.specs.declared.refusal.Refusal.TheVariants.{Exists, Absent}
@@ -32,10 +32,10 @@ use Rattle.hk_world.specs.declared.moment.Act.{Act}
 use Rattle.hk_world.specs.declared.moment.Act.TheVariants.{Accepted, TurnedAway, Started, NotStarted, Executed, Completed, Emitted, Filed}
 use Rattle.hk_world.proofs.OrderLemmas.{true_is_not_false}
 use Rattle.board_steps.specs.Cores.{Core, session, state_of, new_core, pending, next_tag}
-use Rattle.board_steps.specs.Slots.{is_spent, one_shot_changed, one_shot_by_instruction, one_shot_left}
-use Rattle.board_steps.specs.Plans.{Topic, Plan, does, tells, handled_as, handling, with_request, prepared, worked_request, worked_acts, worked_done, next_acts, is_barred, execution, done_of, topics_of, settables, own_filing, due_topics, tags_left, planned, one_shot_by}
+use Rattle.board_steps.specs.Slots.{is_spent, one_shot_changed, one_shot_by_instruction}
+use Rattle.board_steps.specs.Plans.{Topic, Plan, does, tells, handled_as, handling, prepared, worked_request, worked_acts, next_acts, is_barred, execution, done_of, topics_of, settables, own_filing, due_topics, tags_left, planned, one_shot_by}
 use Rattle.board_steps.specs.Steps.{IsNext, AreNext, IsStep}
-use Rattle.board_steps.specs.Runs.{IsMade, IsRun}
+use Rattle.board_steps.specs.Runs.{IsRun}
 use Rattle.board_steps.specs.Timeline.{Stands, AreBelow}
 use Rattle.board_steps.specs.OneShots.{AreShotsAhead}
 use Rattle.board_steps.specs.declared.event.Event.{Event}
@@ -43,7 +43,7 @@ use Rattle.board_steps.specs.declared.event.Event.TheVariants.{Uplink, Clock, Wo
 use Rattle.board_steps.proofs.GrammarLemmas.{RequestsOnly}
 use Rattle.board_steps.proofs.GrownLemmas.{agree-all, state-agrees}
 use Rattle.board_steps.proofs.ValueLemmas.{still-structure}
-use Rattle.board_steps.proofs.RunLemmas.{session_by, with_packet, acts_of, packet-tailoring, packet-clock, run-stands, run-tailoring}
+use Rattle.board_steps.proofs.RunLemmas.{session_by, with_packet, acts_of, packet-clock, run-stands, run-tailoring}
 use Rattle.board_steps.proofs.ReportLemmas.{prepared-tailoring}
 
 -- a plan that does no instruction

@@ -1,6 +1,6 @@
 -- The steps of a slot are a part of a run; the slot that runs then is the next one, and nothing waits where nothing did.
-use Rattle.std.proofs.Common.{arith, ◌≡◌, ℕ, ◌+◌, ◌<◌, ◌≤◌, refl, sym, ◌∙◌, ap, subst, List, [], ◌∷◌, ◌++◌, length, reverse, map, take, Bool, true, false, ◌==◌, Option, Some, None, filter}
-use Rattle.std.specs.Prelude.{⊤, is_some, if◌then◌else◌}
+use Rattle.std.proofs.Common.{arith, ◌≡◌, ℕ, ◌+◌, refl, sym, ◌∙◌, ap, subst, List, [], ◌∷◌, ◌++◌, length, reverse, map, take, Bool, true, false, ◌==◌, Option, Some, None, filter}
+use Rattle.std.specs.Prelude.{⊤, if◌then◌else◌}
 use Rattle.std.specs.List.{AllByRecursion, range_with_len}
 use Rattle.std.specs.Option.{option_map_or}
 use Rattle.std.proofs.lemmas.List.{append_assoc, reverse-append}
@@ -9,13 +9,12 @@ use Rattle.hk_base.specs.declared.types.Param.{Param}
 use Rattle.hk_world.specs.Timelines.{Session, request_number, is_act_of, last_act}
 use Rattle.hk_world.specs.Legal.{is_pending}
 use Rattle.hk_world.specs.declared.moment.Moment.{Moment}
-use Rattle.hk_world.specs.declared.moment.Act.{Act}
 use Rattle.hk_world.proofs.OrderLemmas.{true_is_not_false, last_act-other}
 use Rattle.board_steps.specs.Cores.{Core, session}
 use Rattle.board_steps.specs.Plans.{Topic, Plan, does, tells, prepared, settables, own_filing, due_topics, tags_left, planned}
 use Rattle.board_steps.specs.Steps.{IsNext, AreNext, IsStep}
 use Rattle.board_steps.specs.Runs.{IsMade, IsRun}
-use Rattle.board_steps.specs.SlotRuns.{waiting, Ahead, at_start, at_work, at_end, Comes, Leads, IsSlot, IsPart}
+use Rattle.board_steps.specs.SlotRuns.{waiting, Ahead, at_start, at_end, Comes, Leads, IsSlot}
 use Rattle.board_steps.specs.declared.event.Event.{Event}
 use Rattle.board_steps.specs.declared.event.Event.TheVariants.{Uplink, Clock, Work, Filing, CloseSlot}
 use Rattle.board_steps.proofs.AddedLemmas.{filter-same, waits-same}

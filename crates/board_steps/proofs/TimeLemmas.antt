@@ -1,10 +1,9 @@
 -- The tags of a timeline, and one moment more.
-use Rattle.std.proofs.Common.{arith, ◌≡◌, ℕ, ◌+◌, ◌<◌, ◌≤◌, max, refl, sym, ◌∙◌, ap, subst, List, [], ◌∷◌, length, Bool, true, false, Option, Some, None}
-use Rattle.std.specs.Prelude.{⊤, IfSome}
+use Rattle.std.proofs.Common.{arith, ◌≡◌, ℕ, ◌+◌, ◌<◌, ◌≤◌, List, [], ◌∷◌, length}
 use Rattle.std.specs.List.{AllByRecursion}
 use Rattle.hk_base.specs.Fit.{greatest_tag}
 use Rattle.hk_base.specs.TailoringParts.{TailoringParts}
-use Rattle.hk_world.specs.Timelines.{EachAfter, Session, tailoring, request_number}
+use Rattle.hk_world.specs.Timelines.{EachAfter, Session, tailoring}
 use Rattle.hk_world.specs.Legal.{TagRises, IsLegal}
 use Rattle.hk_world.specs.Honest.{IsHonest}
 use Rattle.hk_world.specs.Worlds.{MayHappen}
@@ -13,8 +12,7 @@ use Rattle.hk_world.specs.declared.moment.Moment.{Moment}
 use Rattle.hk_world.specs.declared.moment.Act.{Act}
 use Rattle.hk_world.specs.declared.moment.Act.TheVariants.{Filed}
 use Rattle.board_steps.specs.Cores.{last_tag, next_tag}
-use Rattle.board_steps.specs.Slots.{is_set}
-use Rattle.board_steps.proofs.GrownLemmas.{IsBelow, AreBelow}
+use Rattle.board_steps.proofs.GrownLemmas.{IsBelow}
 
 pub all-mapped : {X : Type 0} (P Q : X → Type 0) → ((x : X) → P x → Q x) → (xs : List X) → AllByRecursion P xs → AllByRecursion Q xs
 all-mapped P Q f [] h = tt

@@ -1,6 +1,6 @@
 -- The value of a settable parameter: there is one, and it fits. Samples change neither it nor the structures.
-use Rattle.std.proofs.Common.{arith, ◌≡◌, ℕ, zero, suc, ◌-◌, ◌<◌, ◌≤◌, refl, sym, ◌∙◌, ap, ap₂, subst, List, [], ◌∷◌, length, Bool, true, false, ◌==◌, Option, Some, None, Ok, Err, Result}
-use Rattle.std.specs.Prelude.{⊤, ℤ, IfSome, IsSome, IsTrue, is_some, slice_get, option_and_then, option_map, if◌then◌else◌}
+use Rattle.std.proofs.Common.{◌≡◌, ℕ, zero, suc, ◌-◌, ◌≤◌, refl, sym, ◌∙◌, ap, ap₂, subst, List, [], ◌∷◌, length, Bool, true, false, ◌==◌, Option, Some, None, Ok, Err, Result}
+use Rattle.std.specs.Prelude.{ℤ, IfSome, IsTrue, is_some, slice_get, option_and_then, option_map, if◌then◌else◌}
 use Rattle.std.specs.List.{AllByRecursion, cons_option}
 use Rattle.std.specs.Option.{option_or, option_map_or}
 use Rattle.std.specs.Result.{result_ok}
@@ -11,7 +11,6 @@ use Rattle.hk_base.specs.TailoringParts.{TailoringParts}
 use Rattle.hk_base.specs.Parameters.{parameter, is_settable, fits}
 use Rattle.hk_base.specs.declared.types.Key.{Key}
 use Rattle.hk_base.specs.declared.types.Param.{Param}
-use Rattle.hk_base.specs.declared.types.Structure.{Structure}
 use Rattle.body_fields.specs.Spelling.{AreOctets, IsValueOf}
 use Rattle.body_fields.proofs.FitLemmas.{parameter-fit}
 use Rattle.st20_grammar.specs.declared.bodies.Setting.{Setting}
@@ -20,15 +19,12 @@ use Rattle.pus_messages.specs.Messages.{protocol, request_of}
 use Rattle.pus_messages.specs.declared.message.Request.{Request}
 use Rattle.pus_messages.specs.declared.message.MessageFault.{MessageFault}
 use Rattle.pus_messages.proofs.FoundLemmas.{request-few}
-use Rattle.hk_world.specs.States.{boot_state}
-use Rattle.hk_world.specs.Timelines.{Session, tailoring, Done, request_at, instructions_at, instruction_at, done_by, done_at, done_instructions, set_value, filed_value, first_some, structure_after, state_after}
+use Rattle.hk_world.specs.Timelines.{Session, tailoring, Done, request_at, done_by, done_at, done_instructions, set_value, filed_value, first_some, structure_after, state_after}
 use Rattle.hk_world.specs.declared.moment.Moment.{Moment}
 use Rattle.hk_world.specs.declared.moment.Act.{Act}
 use Rattle.hk_world.specs.declared.moment.Act.TheVariants.{Accepted, TurnedAway, Started, NotStarted, Executed, Completed, Emitted, Filed}
 use Rattle.hk_world.proofs.OrderLemmas.{true_is_not_false}
 use Rattle.board_steps.specs.Cores.{Core, session}
-use Rattle.board_steps.specs.Slots.{is_set}
-use Rattle.board_steps.proofs.GrownLemmas.{IsBelow, AreBelow}
 use Rattle.board_steps.proofs.GrammarLemmas.{RequestsOnly, SettingsFit, body-some, body-fit}
 
 -- each member, by its place

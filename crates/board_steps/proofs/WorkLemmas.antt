@@ -1,6 +1,6 @@
 -- The work on a request: its next act is one that may come, and so is the report that it orders.
 use Rattle.std.proofs.Common.{arith, ◌≡◌, ℕ, zero, suc, ◌+◌, ◌-◌, ◌<◌, ◌≤◌, refl, sym, ◌∙◌, ap, subst, List, [], ◌∷◌, ◌++◌, length, map, cond, Bool, true, false, ◌==◌, Option, Some, None, ◌⊎◌, inl, inr}
-use Rattle.std.specs.Prelude.{⊤, IfSome, IsSome, IsNone, IsTrue, IsFalse, is_some, is_none, find, slice_get, option_and_then, option_map, if◌then◌else◌}
+use Rattle.std.specs.Prelude.{⊤, IsSome, IsNone, is_some, is_none, find, slice_get, option_and_then, if◌then◌else◌}
 use Rattle.std.specs.List.{AllByRecursion, range_with_len}
 use Rattle.std.specs.Option.{option_map_or}
 use Rattle.std.proofs.lemmas.Option.{same_Some, none-some}
@@ -8,26 +8,24 @@ use Rattle.std.proofs.lemmas.Bool.Decides.{Decides-eqb, nat_tests}
 use Rattle.hk_base.specs.Fit.{greatest_tag}
 use Rattle.hk_base.proofs.Membership.{AllByRecursion-append}
 use Rattle.hk_base.specs.declared.types.Key.{Key}
-use Rattle.st03_grammar.specs.Instructions.{StructureChange, create, append, set_interval, plain}
-use Rattle.st03_grammar.specs.declared.bodies.Each.{Each}
-use Rattle.st03_grammar.specs.declared.bodies.Each.TheVariants.{Delete, Enable, Disable, Show, OneShot, ShowPeriodic}
-use Rattle.st04_grammar.specs.Instructions.{StatisticsChange, report, reset, enable, disable, add, delete, delete_all, show_definitions}
+use Rattle.st03_grammar.specs.Instructions.{StructureChange, plain}
+use Rattle.st03_grammar.specs.declared.bodies.Each.TheVariants.{Show, ShowPeriodic}
+use Rattle.st04_grammar.specs.Instructions.{StatisticsChange, report, show_definitions}
 use Rattle.pus_messages.specs.Instructions.{Instruction, on_structure, on_statistics, report_values, set_values, instructions, instruction}
 use Rattle.pus_messages.specs.declared.message.Request.{Request}
-use Rattle.report_structures.specs.declared.refusal.Refusal.{Refusal}
 use Rattle.hk_world.specs.States.{refusal}
-use Rattle.hk_world.specs.Timelines.{EachAfter, Session, tailoring, Done, request_at, instructions_at, instruction_at, request_number, last_act, done_by, state_after}
-use Rattle.hk_world.specs.Legal.{HandlesNext, MayFollow, is_pending, begins, IsInOrder, TellsOutcome, IsLegal, refused_numbers}
+use Rattle.hk_world.specs.Timelines.{Session, tailoring, Done, request_at, instructions_at, instruction_at, last_act, state_after}
+use Rattle.hk_world.specs.Legal.{HandlesNext, MayFollow, is_pending, IsInOrder, IsLegal, refused_numbers}
 use Rattle.hk_world.specs.declared.moment.Moment.{Moment}
 use Rattle.hk_world.specs.declared.moment.Act.{Act}
 use Rattle.hk_world.specs.declared.moment.Act.TheVariants.{Accepted, TurnedAway, Started, NotStarted, Executed, Completed, Emitted, Filed}
 use Rattle.hk_world.proofs.OrderLemmas.{true_is_not_false}
-use Rattle.hk_world.proofs.TimelineLemmas.{In, At, at}
+use Rattle.hk_world.proofs.TimelineLemmas.{at}
 use Rattle.hk_world.proofs.RequestLemmas.{IsOf, in_order-of, last_act-in, is_late, accepted-next}
 use Rattle.hk_world.proofs.OutcomeLemmas.{executed-number}
 use Rattle.board_steps.specs.Cores.{next_tag}
-use Rattle.board_steps.specs.Plans.{Topic, samples_of, structure_of, properties_of, statistics, definitions, values_of, Plan, does, tells, structure_topics, statistics_topics, ordered_topics, is_barred, execution, next_acts, done_of, topics_of}
-use Rattle.board_steps.specs.Steps.{IsNext, AreNext}
+use Rattle.board_steps.specs.Plans.{Topic, samples_of, structure_of, properties_of, statistics, definitions, values_of, does, tells, structure_topics, statistics_topics, ordered_topics, is_barred, execution, next_acts, done_of, topics_of}
+use Rattle.board_steps.specs.Steps.{AreNext}
 use Rattle.board_steps.proofs.TimeLemmas.{IsGood, timeline-legal, next-tag-more}
 use Rattle.board_steps.proofs.NextLemmas.{MayDo, IsTimely, does-next, tells-next}
 

@@ -1,5 +1,5 @@
 -- What the moments say that a step adds: samples, parameter reports, and numbers in their ranges.
-use Rattle.std.specs.Prelude.{◌≡◌, ℕ, ◌+◌, ◌*◌, ◌^◌, ◌≤◌, ◌<◌, max, ⊤, List, [], ◌∷◌, ◌++◌, length, reverse, map, filter, filter_map, nat_lt, ℤ, pos, true, Option, Some, None, unwrap_or, option_map}
+use Rattle.std.specs.Prelude.{◌≡◌, ℕ, ◌+◌, ◌*◌, ◌^◌, ◌≤◌, ◌<◌, max, ⊤, List, [], ◌∷◌, ◌++◌, length, reverse, map, filter, filter_map, nat_lt, pos, true, Option, Some, None, unwrap_or, option_map}
 use Rattle.std.specs.List.{AllByRecursion}
 use Rattle.hk_base.specs.Fields.{FitsSignedOctets}
 use Rattle.hk_base.specs.Fit.{greatest_tag}
@@ -15,7 +15,7 @@ use Rattle.pus_messages.specs.declared.message.ReportBody.TheVariants.{Hk}
 use Rattle.hk_world.specs.declared.moment.Moment.{Moment}
 use Rattle.hk_world.specs.declared.moment.Act.{Act}
 use Rattle.hk_world.specs.declared.moment.Act.TheVariants.{Accepted, TurnedAway, Started, NotStarted, Executed, Completed, Emitted, Filed}
-use Rattle.board_steps.specs.Cores.{Core, session, state_of, next_tag}
+use Rattle.board_steps.specs.Cores.{Core, state_of, next_tag}
 use Rattle.board_steps.specs.Plans.{settables, end_of_slot, every_key, is_reported, planned, slot_after_event}
 use Rattle.board_steps.specs.SlotRuns.{filings}
 use Rattle.board_steps.specs.declared.event.Sample.{Sample}

@@ -1,5 +1,5 @@
 -- What a board is to do next: its acts and reports, read off the state, in order.
-use Rattle.std.specs.Prelude.{ℕ, ◌+◌, ◌-◌, ◌*◌, ◌^◌, max, List, [], ◌∷◌, ◌++◌, length, replicate, map, filter, find, take, slice_get, pos, Bool, true, false, ◌&&◌, ◌==◌, nat_le, Option, Some, None, is_some, is_none, unwrap_or, if◌then◌else◌}
+use Rattle.std.specs.Prelude.{ℕ, ◌+◌, ◌-◌, ◌*◌, ◌^◌, max, List, [], ◌∷◌, ◌++◌, length, replicate, map, filter, find, take, pos, Bool, false, ◌&&◌, ◌==◌, nat_le, Option, Some, None, is_some, is_none, unwrap_or, if◌then◌else◌}
 use Rattle.std.specs.List.{range_with_len}
 use Rattle.std.specs.Option.{option_map_or, option_and_then}
 use Rattle.hk_base.specs.TailoringParts.{TailoringParts}

@@ -1,8 +1,6 @@
 -- What a board has done after any events.
-use Rattle.std.specs.Prelude.{◌≡◌, ℕ, ◌<◌, ◌≤◌, List, [], ◌∷◌, ◌++◌, length, false}
+use Rattle.std.specs.Prelude.{◌≡◌, List, [], ◌∷◌, false}
 use Rattle.hk_base.specs.TailoringParts.{TailoringParts}
-use Rattle.hk_world.specs.States.{boot_state}
-use Rattle.hk_world.specs.Timelines.{Session}
 use Rattle.board_steps.specs.Cores.{Core, new_core}
 use Rattle.board_steps.specs.Steps.{IsStep, IsEvent, is_full, is_late}
 use Rattle.board_steps.specs.declared.event.Event.{Event}

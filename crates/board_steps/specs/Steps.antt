@@ -1,5 +1,5 @@
 -- What a step of a board's core is, and when it can't be made.
-use Rattle.std.specs.Prelude.{◌≡◌, ℕ, ◌+◌, ⊤, List, [], ◌∷◌, length, map, ℤ, Bool, true, false, ◌&&◌, ◌||◌, ◌==◌, nat_lt, Option, Some, Result, Ok, Err}
+use Rattle.std.specs.Prelude.{◌≡◌, ℕ, ◌+◌, ⊤, List, [], ◌∷◌, length, map, ℤ, Bool, true, false, ◌&&◌, ◌||◌, nat_lt, Some, Result, Ok, Err}
 use Rattle.std.specs.List.{AllByRecursion, AllZip}
 use Rattle.body_fields.specs.Spelling.{AreOctets}
 use Rattle.hk_base.specs.Fit.{greatest_tag}

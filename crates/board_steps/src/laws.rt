@@ -42,7 +42,7 @@ pub fn boards()
         → AgreeOn c.requests other c.moments → IsLegal (on_ground (session c) known other) c.moments }
     ensures ground_honest { (t : TailoringParts) (events : List Event) (c : Core) (known : Bool) (other : List (List ℕ)) → IsFit t → IsRun t events c
         → AgreeOn c.requests other c.moments → IsHonest (on_ground (session c) known other) c.moments }
-    ensures ground { (c : Core) (known : Bool) (other : List (List ℕ)) → Stands c
+    ensures happens { (c : Core) (known : Bool) (other : List (List ℕ)) → Stands c
         → AgreeOn c.requests other c.moments → EachAfter (MayHappen (on_ground (session c) known other)) c.moments }
     ensures tailoring { (t : TailoringParts) (events : List Event) (c : Core) → IsRun t events c → c.tailoring ≡ t }
     ensures stands { (t : TailoringParts) (events : List Event) (c : Core) → IsFit t → IsRun t events c → Stands c }

@@ -70,7 +70,9 @@ struct Turnstile {
 
 impl Gate for Turnstile {
     fn pass<R: Wait>(&self, _rt: &R, _at: At) {
-        let state = self.state.fetch_add(0x9e37_79b9_7f4a_7c15, Ordering::SeqCst);
+        let state = self
+            .state
+            .fetch_add(0x9e37_79b9_7f4a_7c15, Ordering::SeqCst);
         if state >> 60 == 0 {
             thread::yield_now();
         }
@@ -108,6 +110,7 @@ fn sensors(
 }
 
 const ENABLE_3: [u8; 13] = [0x18, 0x64, 0xc0, 0, 0, 6, 0x20, 3, 5, 0, 1, 1, 3];
+
 const REPORT_7: [u8; 14] = [0x18, 0x64, 0xc0, 1, 0, 7, 0x20, 20, 1, 0, 1, 1, 0, 7];
 
 /// The requests to enable housekeeping structure 3 and to report parameter 7.
@@ -312,7 +315,9 @@ fn a_full_ring_hands_back(rt: HostRuntime) -> Result<(), Fail> {
     let tailoring = builtin(alloc)?;
     let (mut executor, sampler) = one_sampler(alloc, 0)?;
     let Sampler {
-        end, mut sensor, ..
+        end,
+        mut sensor,
+        ..
     } = sampler;
     let mut ends = [end];
     let (sent, back) = fill(&tailoring, FIRST, &mut ends[0], &mut sensor);
@@ -339,7 +344,9 @@ fn a_failed_reading_files_nothing(rt: HostRuntime) -> Result<(), Fail> {
     } = sampler;
     let mut ends = [end];
     assert_eq!(rt; orders.as_slice().first().copied(), Some(FIRST));
-    assert!(rt; takes(&tailoring, FIRST, &mut ends[0], &mut sensor) == Some(Taken::Sent(with_value(None))));
+    assert!(rt;
+        takes(&tailoring, FIRST, &mut ends[0], &mut sensor) == Some(Taken::Sent(with_value(None)))
+    );
     assert!(rt; matches!(executor.settle(&mut ends), Ok(0)));
     assert_eq!(rt; executor.core().journal().len(), 0);
     Ok(())
@@ -350,7 +357,9 @@ fn three_taken(alloc: Global, is_met: bool) -> Result<Option<u32>, Memory> {
     let tailoring = builtin(alloc)?;
     let (mut executor, sampler) = one_sampler(alloc, 0)?;
     let Sampler {
-        end, mut sensor, ..
+        end,
+        mut sensor,
+        ..
     } = sampler;
     let mut ends = [end];
     let mut is_sent = true;

@@ -15,8 +15,8 @@ pub returns-clause-ground_honest : goal.returns-clause-ground_honest
 returns-clause-ground_honest c t events core known other fit run agree =
     (run-ground t events core known other fit (c.requests_are_spelled.ensures.only t) run agree).1
 
-pub returns-clause-ground : goal.returns-clause-ground
-returns-clause-ground c core known other stands agree = stands-ground core known other stands agree
+pub returns-clause-happens : goal.returns-clause-happens
+returns-clause-happens c core known other stands agree = stands-ground core known other stands agree
 
 pub returns-clause-tailoring : goal.returns-clause-tailoring
 returns-clause-tailoring c t events core run = run-tailoring t events core run

@@ -6,21 +6,13 @@ use Rattle.board_steps.specs.declared.event.Event.TheVariants.{Work}
 use Rattle.board_core.specs.Boards.{core_of}
 use Rattle.board_core.specs.Effects.{IsToCarry}
 use Rattle.board_core.specs.declared.effect.Effect.TheVariants.{Replace}
-use Rattle.board_core.proofs.CarriedLemmas.{left-first, room-is}
-use Rattle.board_core.proofs.FinishedLemmas.{replaced-finished, replaced-present}
+use Rattle.board_core.proofs.CarriedLemmas.{left-first}
+use Rattle.board_core.proofs.FinishedLemmas.{replaced-finished}
 use Rattle.std.specs.Prelude.{IsSome, Option, ◌+◌, if◌then◌else◌}
 use Rattle.hk_base.specs.Fit.{slot_of}
 use Rattle.board_steps.specs.Cores.{next_tag}
 use Rattle.board_state.specs.Holdings.{SetsAt, with_structure}
-use Rattle.board_core.proofs.execution.BoardCore.replace.Goals as goal
-
-pub commit-requires-draft : goal.commit-requires-draft
-commit-requires-draft c = (subst (λ (x : Core). IsToCarry x (Replace c.args.key c.args.structure c.args.begins) c.args.draft) (sym c.self.view_is) c.requires).plan.draft
-
-pub commit-requires-room : goal.commit-requires-room
-commit-requires-room c =
-    let b = c.self.inside in
-    room-is b.clock b.slot_now b.requests b.structures b.log (Replace c.args.key c.args.structure c.args.begins) c.args.draft (subst (λ (x : Core). IsToCarry x (Replace c.args.key c.args.structure c.args.begins) c.args.draft) (sym c.self.view_is) c.requires)
+use Rattle.board_core.proofs.board.BoardCore.replace.Goals as goal
 
 pub count_done-requires : goal.count_done-requires
 count_done-requires c =
@@ -28,23 +20,15 @@ count_done-requires c =
     left-first b.clock b.slot_now b.requests b.structures b.log (Replace c.args.key c.args.structure c.args.begins) c.args.draft (subst (λ (x : Core). IsToCarry x (Replace c.args.key c.args.structure c.args.begins) c.args.draft) (sym c.self.view_is) c.requires)
     b.requests.waiting c.self.invariant.board.waits
 
-pub replace-requires : goal.replace-requires
-replace-requires c =
-    let b = c.self.inside in
-    let t = subst (λ (x : Core). IsToCarry x (Replace c.args.key c.args.structure c.args.begins) c.args.draft) (sym c.self.view_is) c.requires in
-    let p = replaced-present b.clock b.slot_now b.requests b.structures b.log b.channels b.members c.args.draft (subst IsFit c.tailoring.ensures c.widths-fit.ensures.fit)
-    (c.requests_are_spelled.ensures.only b.log.tailoring) c.self.invariant c.args.key c.args.structure c.args.begins t in
-    subst IsSome (sym p.1) tt
-
-pub invariant_of-self : goal.invariant_of-self
-invariant_of-self c =
+pub invariant_of-self-2 : goal.invariant_of-self-2
+invariant_of-self-2 c =
     let b = c.self.inside in
     let t = subst (λ (x : Core). IsToCarry x (Replace c.args.key c.args.structure c.args.begins) c.args.draft) (sym c.self.view_is) c.requires in
     (replaced-finished b.clock b.slot_now b.requests b.structures b.log b.channels b.members c.args.draft (subst IsFit c.tailoring.ensures c.widths-fit.ensures.fit)
     (c.requests_are_spelled.ensures.only b.log.tailoring) c.self.invariant c.args.key c.args.structure c.args.begins t c.count_done.new.self c.replace.new.self c.commit.new.self c.in_ok-count.count
     (record { requests = c.count_done.ensures; log = c.in_ok-count.ensures.ok; count_is = c.in_ok-count.ensures.count })
     (subst (λ (x : Core). SetsAt c.args.key (with_structure c.args.structure (if c.args.begins then Some (slot_of x.tailoring (next_tag x.clock x.moments) + 1) else None)) b.structures c.replace.new.self) (sym c.self.view_is)
-    (subst (λ (o : Option ℕ). SetsAt c.args.key (with_structure c.args.structure o) b.structures c.replace.new.self) c.begin_slot.ensures c.replace.ensures))).1
+    (subst (λ (o : Option ℕ). SetsAt c.args.key (with_structure c.args.structure o) b.structures c.replace.new.self) c.begin_slot-begins.ensures c.replace.ensures.sets))).1
 
 pub returns : goal.returns
 returns c =
@@ -55,4 +39,4 @@ returns c =
     (c.requests_are_spelled.ensures.only b.log.tailoring) c.self.invariant c.args.key c.args.structure c.args.begins t c.count_done.new.self c.replace.new.self c.commit.new.self c.in_ok-count.count
     (record { requests = c.count_done.ensures; log = c.in_ok-count.ensures.ok; count_is = c.in_ok-count.ensures.count })
     (subst (λ (x : Core). SetsAt c.args.key (with_structure c.args.structure (if c.args.begins then Some (slot_of x.tailoring (next_tag x.clock x.moments) + 1) else None)) b.structures c.replace.new.self) (sym c.self.view_is)
-    (subst (λ (o : Option ℕ). SetsAt c.args.key (with_structure c.args.structure o) b.structures c.replace.new.self) c.begin_slot.ensures c.replace.ensures))).0
+    (subst (λ (o : Option ℕ). SetsAt c.args.key (with_structure c.args.structure o) b.structures c.replace.new.self) c.begin_slot-begins.ensures c.replace.ensures.sets))).0

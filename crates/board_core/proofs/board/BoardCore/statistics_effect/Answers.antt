@@ -9,7 +9,7 @@ use Rattle.board_core.specs.Causes.{IsSmallRefusal}
 use Rattle.board_core.specs.Effects.{IsEffectOf, IsStatisticsOfGrammar}
 use Rattle.board_core.specs.declared.effect.Effect.TheVariants.{Refused, ChangeStatistics}
 use Rattle.board_core.proofs.StatisticsWorkLemmas.{refusal-alike, held-small}
-use Rattle.board_core.proofs.statistics_work.BoardCore.statistics_effect.Goals as goal
+use Rattle.board_core.proofs.board.BoardCore.statistics_effect.Goals as goal
 
 pub returns-in-Some : goal.returns-in-Some
 returns-in-Some c =

@@ -6,17 +6,9 @@ use Rattle.board_steps.specs.declared.event.Event.TheVariants.{Work}
 use Rattle.board_core.specs.Boards.{core_of}
 use Rattle.board_core.specs.Effects.{IsToCarry}
 use Rattle.board_core.specs.declared.effect.Effect.TheVariants.{Delete}
-use Rattle.board_core.proofs.CarriedLemmas.{left-first, room-is}
+use Rattle.board_core.proofs.CarriedLemmas.{left-first}
 use Rattle.board_core.proofs.FinishedLemmas.{deleted-finished}
-use Rattle.board_core.proofs.execution.BoardCore.delete.Goals as goal
-
-pub commit-requires-draft : goal.commit-requires-draft
-commit-requires-draft c = (subst (λ (x : Core). IsToCarry x (Delete c.args.key) c.args.draft) (sym c.self.view_is) c.requires).plan.draft
-
-pub commit-requires-room : goal.commit-requires-room
-commit-requires-room c =
-    let b = c.self.inside in
-    room-is b.clock b.slot_now b.requests b.structures b.log (Delete c.args.key) c.args.draft (subst (λ (x : Core). IsToCarry x (Delete c.args.key) c.args.draft) (sym c.self.view_is) c.requires)
+use Rattle.board_core.proofs.board.BoardCore.delete.Goals as goal
 
 pub count_done-requires : goal.count_done-requires
 count_done-requires c =
@@ -24,8 +16,8 @@ count_done-requires c =
     left-first b.clock b.slot_now b.requests b.structures b.log (Delete c.args.key) c.args.draft (subst (λ (x : Core). IsToCarry x (Delete c.args.key) c.args.draft) (sym c.self.view_is) c.requires)
     b.requests.waiting c.self.invariant.board.waits
 
-pub invariant_of-self : goal.invariant_of-self
-invariant_of-self c =
+pub invariant_of-self-2 : goal.invariant_of-self-2
+invariant_of-self-2 c =
     let b = c.self.inside in
     let t = subst (λ (x : Core). IsToCarry x (Delete c.args.key) c.args.draft) (sym c.self.view_is) c.requires in
     (deleted-finished b.clock b.slot_now b.requests b.structures b.log b.channels b.members c.args.draft (subst IsFit c.tailoring.ensures c.widths-fit.ensures.fit)

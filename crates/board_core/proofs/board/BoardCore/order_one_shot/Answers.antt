@@ -6,21 +6,13 @@ use Rattle.board_steps.specs.declared.event.Event.TheVariants.{Work}
 use Rattle.board_core.specs.Boards.{core_of}
 use Rattle.board_core.specs.Effects.{IsToCarry}
 use Rattle.board_core.specs.declared.effect.Effect.TheVariants.{OrderOneShot}
-use Rattle.board_core.proofs.CarriedLemmas.{left-first, room-is}
-use Rattle.board_core.proofs.FinishedLemmas.{ordered-finished, ordered-present}
+use Rattle.board_core.proofs.CarriedLemmas.{left-first}
+use Rattle.board_core.proofs.FinishedLemmas.{ordered-finished}
 use Rattle.std.specs.Prelude.{IsSome, ◌+◌}
 use Rattle.hk_base.specs.Fit.{slot_of}
 use Rattle.board_steps.specs.Cores.{next_tag}
 use Rattle.board_state.specs.Holdings.{SetsAt, with_one_shot}
-use Rattle.board_core.proofs.execution.BoardCore.order_one_shot.Goals as goal
-
-pub commit-requires-draft : goal.commit-requires-draft
-commit-requires-draft c = (subst (λ (x : Core). IsToCarry x (OrderOneShot c.args.key) c.args.draft) (sym c.self.view_is) c.requires).plan.draft
-
-pub commit-requires-room : goal.commit-requires-room
-commit-requires-room c =
-    let b = c.self.inside in
-    room-is b.clock b.slot_now b.requests b.structures b.log (OrderOneShot c.args.key) c.args.draft (subst (λ (x : Core). IsToCarry x (OrderOneShot c.args.key) c.args.draft) (sym c.self.view_is) c.requires)
+use Rattle.board_core.proofs.board.BoardCore.order_one_shot.Goals as goal
 
 pub count_done-requires : goal.count_done-requires
 count_done-requires c =
@@ -28,23 +20,15 @@ count_done-requires c =
     left-first b.clock b.slot_now b.requests b.structures b.log (OrderOneShot c.args.key) c.args.draft (subst (λ (x : Core). IsToCarry x (OrderOneShot c.args.key) c.args.draft) (sym c.self.view_is) c.requires)
     b.requests.waiting c.self.invariant.board.waits
 
-pub order_one_shot-requires : goal.order_one_shot-requires
-order_one_shot-requires c =
-    let b = c.self.inside in
-    let t = subst (λ (x : Core). IsToCarry x (OrderOneShot c.args.key) c.args.draft) (sym c.self.view_is) c.requires in
-    let p = ordered-present b.clock b.slot_now b.requests b.structures b.log b.channels b.members c.args.draft (subst IsFit c.tailoring.ensures c.widths-fit.ensures.fit)
-    (c.requests_are_spelled.ensures.only b.log.tailoring) c.self.invariant c.args.key t in
-    subst IsSome (sym p.1) tt
-
-pub invariant_of-self : goal.invariant_of-self
-invariant_of-self c =
+pub invariant_of-self-2 : goal.invariant_of-self-2
+invariant_of-self-2 c =
     let b = c.self.inside in
     let t = subst (λ (x : Core). IsToCarry x (OrderOneShot c.args.key) c.args.draft) (sym c.self.view_is) c.requires in
     (ordered-finished b.clock b.slot_now b.requests b.structures b.log b.channels b.members c.args.draft (subst IsFit c.tailoring.ensures c.widths-fit.ensures.fit)
     (c.requests_are_spelled.ensures.only b.log.tailoring) c.self.invariant c.args.key t c.count_done.new.self c.order_one_shot.new.self c.commit.new.self c.in_ok-count.count
     (record { requests = c.count_done.ensures; log = c.in_ok-count.ensures.ok; count_is = c.in_ok-count.ensures.count })
     (subst (λ (x : Core). SetsAt c.args.key (with_one_shot (slot_of x.tailoring (next_tag x.clock x.moments) + 1)) b.structures c.order_one_shot.new.self) (sym c.self.view_is)
-    (subst (λ (n : ℕ). SetsAt c.args.key (with_one_shot n) b.structures c.order_one_shot.new.self) c.next_slot.ensures.slot c.order_one_shot.ensures))).1
+    (subst (λ (n : ℕ). SetsAt c.args.key (with_one_shot n) b.structures c.order_one_shot.new.self) c.next_slot-next_slot.ensures.slot c.order_one_shot.ensures.sets))).1
 
 pub returns : goal.returns
 returns c =
@@ -55,4 +39,4 @@ returns c =
     (c.requests_are_spelled.ensures.only b.log.tailoring) c.self.invariant c.args.key t c.count_done.new.self c.order_one_shot.new.self c.commit.new.self c.in_ok-count.count
     (record { requests = c.count_done.ensures; log = c.in_ok-count.ensures.ok; count_is = c.in_ok-count.ensures.count })
     (subst (λ (x : Core). SetsAt c.args.key (with_one_shot (slot_of x.tailoring (next_tag x.clock x.moments) + 1)) b.structures c.order_one_shot.new.self) (sym c.self.view_is)
-    (subst (λ (n : ℕ). SetsAt c.args.key (with_one_shot n) b.structures c.order_one_shot.new.self) c.next_slot.ensures.slot c.order_one_shot.ensures))).0
+    (subst (λ (n : ℕ). SetsAt c.args.key (with_one_shot n) b.structures c.order_one_shot.new.self) c.next_slot-next_slot.ensures.slot c.order_one_shot.ensures.sets))).0

@@ -2,16 +2,14 @@
 use Rattle.std.proofs.Common.{◌≡◌, ℕ, refl, sym, ◌∙◌, ap, subst, List, [], ◌∷◌, ◌++◌, append-nil, Bool, true, false, ◌&&◌, ◌==◌, Option, Some, None, IfSome, IfNone, cond}
 use Rattle.std.specs.Prelude.{unwrap_or, if◌then◌else◌}
 use Rattle.std.proofs.lemmas.Bool.{both_ways, and_parts, eqb-true, eq-eqb}
-use Rattle.std.specs.Map.{lookup, remove_entry}
-use Rattle.std.specs.BTreeMap.{is_at, insert_entry}
-use Rattle.std.specs.Ordering.{is_eq, match_ordering}
+use Rattle.std.specs.Map.{lookup}
+use Rattle.std.specs.BTreeMap.{is_at}
 use Rattle.std.specs.declared.cmp.Ordering.{Ordering}
-use Rattle.std.specs.declared.cmp.Ordering.TheVariants.{Less, Equal, Greater}
 use Rattle.hk_base.specs.Parameters.{kind_eq, key_eq}
 use Rattle.hk_base.specs.declared.types.Kind.{Kind}
 use Rattle.hk_base.specs.declared.types.Kind.TheVariants.{Housekeeping, Diagnostic}
 use Rattle.hk_base.specs.declared.types.Key.{Key}
-use Rattle.verdict_tables.specs.Collecting.{held_for, IsHeld, without, tags_of, tags_if, Collects}
+use Rattle.verdict_tables.specs.Collecting.{held_for, IsHeld, tags_of, tags_if, Collects}
 
 -- an order of keys finds a key where two keys are one
 abbrev pub FindsKeys : (Key → Key → Ordering) → Type 0

@@ -5,7 +5,7 @@ use Rattle.verdict_tables.specs.Collecting.{IsHeld, held_for}
 use Rattle.verdict_tables.proofs.KeyOrder.{held-updates}
 use Rattle.verdict_tables.proofs.structures.Structures.insert.Goals as goal
 
-pub returns-clause : goal.returns-clause
-returns-clause c =
+pub returns : goal.returns
+returns c =
     subst (λ (old : List (Key × RangeParts)). IsHeld c.args.key (Some c.args.ranges) old c.insert.new.self.entries) c.self.view_is
     (held-updates _ (λ a b. search rules) c.self.inside.ranges.entries c.insert.new.self.entries c.args.key (Some c.args.ranges) c.in_ok-insert.ensures.updates.0)

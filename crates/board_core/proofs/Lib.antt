@@ -30,3 +30,4 @@ mod ReportedLemmas
 mod BoundLemmas
 mod ValueReportLemmas
 mod SettingLemmas
+mod CloseSampleLemmas

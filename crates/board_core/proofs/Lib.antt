@@ -31,3 +31,4 @@ mod BoundLemmas
 mod ValueReportLemmas
 mod SettingLemmas
 mod CloseSampleLemmas
+mod CloseValueLemmas

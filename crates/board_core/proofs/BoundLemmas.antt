@@ -69,7 +69,7 @@ counts-fewer state moments (a ∷ xs) (m ∷ ms) h =
     let tag : ℕ = if nat_lt state.start a.added then a.added else state.start in
     let count = h.0.1.count in
     let turned : length (samples_of state moments a) ≡ length (filter_map (λ (x : Moment). if nat_lt tag x.tag then sample_of a.param x.act else None) moments) =
-        length-reverse (filter_map (λ (x : Moment). if nat_lt tag x.tag then sample_of a.param x.act else None) moments) in
+    length-reverse (filter_map (λ (x : Moment). if nat_lt tag x.tag then sample_of a.param x.act else None) moments) in
     let few = fewer a.param tag moments in
     (omega (arith, count, turned, few), counts-fewer state moments xs ms h.1)
 

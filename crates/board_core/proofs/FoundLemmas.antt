@@ -1,5 +1,5 @@
 -- The effect that is found of an instruction on a structure is the one that it has.
-use Rattle.std.proofs.Common.{arith, ◌≡◌, ℕ, ◌+◌, ◌*◌, ◌<◌, ◌≤◌, ◌^◌, ◌%◌, refl, sym, ◌∙◌, ap, subst, List, [], ◌∷◌, length, Bool, true, false, ◌==◌, not, cond, nat_lt, Option, Some, None, Ok, Err, Result}
+use Rattle.std.proofs.Common.{arith, ◌≡◌, ℕ, ◌+◌, ◌*◌, ◌<◌, ◌≤◌, ◌^◌, ◌%◌, refl, sym, ◌∙◌, ap, ap₂, subst, List, [], ◌∷◌, length, Bool, true, false, ◌==◌, not, cond, nat_lt, Option, Some, None, Ok, Err, Result}
 use Rattle.std.specs.Prelude.{⊤, IfSome, find, is_none, option_map, if◌then◌else◌}
 use Rattle.std.specs.List.{AllByRecursion}
 use Rattle.std.specs.Result.{result_err}
@@ -207,7 +207,7 @@ module _ (t : TailoringParts) (fit : IsFit t) where
   pub small-refusal : (change : StructureChange) (state : Option Structure) (r : Refusal) → IsGrammarChange t change → IfSome state (λ s. IsValid t s.def) → effect t change state ≡ Err r → IsSmallRefusal r
   small-refusal (create d) None r g h e =
       one-of (if_doubled [] (parameter_ids d) ∷ if_too_wide t d ∷ []) (Some (record { def = d; enabled = false })) r
-      (doubled-small [] (parameter_ids d), if-small (nat_lt t.widths.max_payload (payload_size t d)) (TooWide (payload_size t d)) tt, tt) e
+      (doubled-small [] (parameter_ids d), (if-small (nat_lt t.widths.max_payload (payload_size t d)) (TooWide (payload_size t d)) tt, tt)) e
   small-refusal (create d) (Some s) r g h e = wrong Exists r tt e
   small-refusal (append a) None r g h e = wrong Absent r tt e
   small-refusal (append a) (Some s) r g h e =
@@ -217,12 +217,19 @@ module _ (t : TailoringParts) (fit : IsFit t) where
       ∷ if_too_wide t longer ∷ [])
       (Some (record { def = longer; enabled = s.enabled })) r (
         if-small s.enabled Enabled tt,
-        doubled-small (parameter_ids s.def) (listed_ids a.simple a.arrays),
-        uneven-small s.def.interval a.arrays h.formed.interval.1 (grammar-fields a.arrays g.each_array),
-        if-small (nat_lt 255 (length longer.simple)) (TooMany (length longer.simple)) tt,
-        if-small (nat_lt 255 (length longer.arrays)) (TooMany (length longer.arrays)) tt,
-        if-small (nat_lt t.widths.max_payload (payload_size t longer)) (TooWide (payload_size t longer)) tt,
-        tt,
+        (
+          doubled-small (parameter_ids s.def) (listed_ids a.simple a.arrays),
+          (
+            uneven-small s.def.interval a.arrays h.formed.interval.1 (grammar-fields a.arrays g.each_array),
+            (
+              if-small (nat_lt 255 (length longer.simple)) (TooMany (length longer.simple)) tt,
+              (
+                if-small (nat_lt 255 (length longer.arrays)) (TooMany (length longer.arrays)) tt,
+                (if-small (nat_lt t.widths.max_payload (payload_size t longer)) (TooWide (payload_size t longer)) tt, tt),
+              ),
+            ),
+          ),
+        ),
       ) e
   small-refusal (set_interval n) None r g h e = wrong Absent r tt e
   small-refusal (set_interval n) (Some s) r g h e =
@@ -243,3 +250,17 @@ valid-state t done key held h = subst (λ (o : Option Structure). IfSome o (λ s
     go : (o : Option Held) → IfSome o (IsHeld t done key) → IfSome (option_map (λ x. x.structure) o) (λ s. IsValid t s.def)
     go None k = tt
     go (Some x) k = k.valid
+
+-- what is found of an instruction on a structure, where the tailoring and the state are those of the core
+module _ (c : Core) (key : Key) (change : StructureChange) (t : TailoringParts) (o : Option Structure) (same : t ≡ c.tailoring) (there : o ≡ (state_of c).structure key)
+    (valid : IfSome ((state_of c).structure key) (λ s. IsValid c.tailoring s.def)) where
+  found : (r : Result (Option Structure) Refusal) → effect t change o ≡ r → effect c.tailoring change ((state_of c).structure key) ≡ r
+  found r e = sym (ap₂ (λ x y. effect x change y) same there) ∙ e
+
+  pub found-some : (after : Structure) → key.id < 256 ^ c.tailoring.widths.structure_octets → IsWellFormed t after.def → effect t change o ≡ Ok (Some after)
+      → IsEffectOf c (on_structure key change) (effect_by (kind_of change) key after)
+  found-some after id formed e = some-effect c key change after id valid (subst (λ x. IsWellFormed x after.def) same formed) (found (Ok (Some after)) e)
+
+  pub found-refused : (r : Refusal) → IsFit t → IsGrammarChange c.tailoring change → effect t change o ≡ Err r → IsEffectOf c (on_structure key change) (Refused r)
+  found-refused r fit g e =
+      (ap result_err (found (Err r) e), small-refusal c.tailoring (subst IsFit same fit) change ((state_of c).structure key) r g valid (found (Err r) e))

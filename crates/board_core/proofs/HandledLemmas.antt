@@ -199,3 +199,9 @@ withdrawn rq k packet w n e =
     ap₂ (λ (ps : List (List ℕ)) (ws : List Running). record { packets = ps; waiting = ws })
     (take-front rq.packets (replicate (k - length rq.packets) [] ++ packet ∷ []) n e)
     (take-front rq.waiting (w ∷ []) (length (rq.waiting ++ w ∷ []) - 1) (omega (arith, length-append rq.waiting (w ∷ []))))
+
+-- so does a packet that was
+pub withdrawn-packet : (rq : RequestsHeld) (k : ℕ) (packet : List ℕ) (n : ℕ) → n ≡ length rq.packets
+    → ◌≡◌ {A = RequestsHeld} (record { packets = take n (with_request rq.packets k packet); waiting = rq.waiting }) rq
+withdrawn-packet rq k packet n e =
+    ap (λ (ps : List (List ℕ)). record { packets = ps; waiting = rq.waiting }) (take-front rq.packets (replicate (k - length rq.packets) [] ++ packet ∷ []) n e)

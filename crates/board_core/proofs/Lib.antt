@@ -30,3 +30,5 @@ mod ReportedLemmas
 mod BoundLemmas
 mod ValueReportLemmas
 mod SettingLemmas
+mod CloseSampleLemmas
+mod CloseValueLemmas

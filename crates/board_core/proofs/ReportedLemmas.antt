@@ -121,9 +121,11 @@ all-appended P (x ∷ xs) ys h g = (h.0, all-appended P xs ys h.1 g)
 
 sorted-both : (m n k : ℕ) → AreSorted (map (key_of Housekeeping) (range_with_len m n) ++ map (key_of Diagnostic) (range_with_len 0 k))
 sorted-both m zero k = sorted-range Diagnostic 0 k
-sorted-both m (suc n) k =
-    (all-appended (λ j. is_before (key_of Housekeeping m) j ≡ true) (map (key_of Housekeeping) (range_with_len (m + 1) n)) (map (key_of Diagnostic) (range_with_len 0 k))
-    (from-low Housekeeping m (m + 1) n (omega arith)) (before-diagnostics m 0 k), sorted-both (m + 1) n k)
+sorted-both m (suc n) k = (
+  all-appended (λ j. is_before (key_of Housekeeping m) j ≡ true) (map (key_of Housekeeping) (range_with_len (m + 1) n)) (map (key_of Diagnostic) (range_with_len 0 k))
+      (from-low Housekeeping m (m + 1) n (omega arith)) (before-diagnostics m 0 k),
+  sorted-both (m + 1) n k,
+)
 
 pub every-sorted : (t : TailoringParts) → AreSorted (every_key t)
 every-sorted t = sorted-both 0 (256 ^ t.widths.structure_octets) (256 ^ t.widths.structure_octets)

@@ -120,9 +120,9 @@ state-fits c q id v fit only stands known e = go (is_settable q) refl
         subst (λ (z : ℤ). fits q z ≡ true) (same_Some is.0 v (sym is.1 ∙ e)) is.2
     go false set =
         let by : (state_of c).value id ≡ option_or (if is_settable q then last else filed) q.initial =
-            ap (λ (o : Option Param). option_or (if option_map_or is_settable o false then last else filed) (option_and_then (λ (p : Param). p.initial) o)) known in
+        ap (λ (o : Option Param). option_or (if option_map_or is_settable o false then last else filed) (option_and_then (λ (p : Param). p.initial) o)) known in
         let sensed : (state_of c).value id ≡ filed =
-            by ∙ ap (λ b. option_or (if b then last else filed) q.initial) set ∙ ap (option_or filed) (none-initial q.initial set) ∙ or-none filed in
+        by ∙ ap (λ b. option_or (if b then last else filed) q.initial) set ∙ ap (option_or filed) (none-initial q.initial set) ∙ or-none filed in
         filed-fits c q id v known c.moments stands.good.timeline (sym sensed ∙ e)
 
 -- a parameter with a value takes few octets
@@ -138,7 +138,7 @@ setting-short t x fit =
     value None e = let none : length (value_octets t x.param x.value) ≡ 0 = ap (λ o. length (option_map_or (λ (p : Param). signed_octets_of p.octets x.value) o [])) e in omega (arith, none)
     value (Some p) e =
         let some : length (value_octets t x.param x.value) ≡ length (signed_octets_of p.octets x.value) =
-            ap (λ o. length (option_map_or (λ (p : Param). signed_octets_of p.octets x.value) o [])) e in
+        ap (λ o. length (option_map_or (λ (p : Param). signed_octets_of p.octets x.value) o [])) e in
         let shape = (parameter-fit t x.param p fit e).0.shape in
         let octets = shape.octets in
         let bits = shape.bits.1 in
@@ -211,9 +211,10 @@ pairs-all channels (id ∷ ids) e = go (value_at channels id) refl e (λ f. pair
     go (Some v) f g ih =
         let later = ih (sym (ap (λ o. cond (is_none o) (Some id) (find (λ k. is_none (value_at channels k)) ids)) f) ∙ g) in
         let own : Setting = record { param = id; value = v } in
-        let is : pairs_held channels (id ∷ ids) ≡ own ∷ rest = ap (λ o. cons_option (option_map (λ w. record { param = id; value = w }) o) rest) f in
-        (ap (map (λ (x : Setting). x.param)) is ∙ ap (λ ks. id ∷ ks) later.0,
-        subst (AllByRecursion (λ x. value_at channels x.param ≡ Some x.value)) (sym is) (f, later.1))
+        let is : pairs_held channels (id ∷ ids) ≡ own ∷ rest = ap (λ o. cons_option (option_map (λ w. record { param = id; value = w }) o) rest) f in (
+          ap (map (λ (x : Setting). x.param)) is ∙ ap (λ ks. id ∷ ks) later.0,
+          subst (AllByRecursion (λ x. value_at channels x.param ≡ Some x.value)) (sym is) (f, later.1),
+        )
 
 none-mapped : (o : Option ℕ) → option_map NoValue o ≡ None → o ≡ None
 none-mapped None e = refl

@@ -86,7 +86,9 @@ impl BoardCore {
     {
         let kind = ChangeKind::of(&change);
         let before = self.structures.structure(key);
-        match apply(self.alloc, self.log.tailoring(), change, before) {
+        let tailoring = self.log.tailoring();
+        let _fit = tailoring.widths();
+        match apply(self.alloc, tailoring, change, before) {
             Ok(Some(after)) => Ok(kind.effect(key, after)),
             Ok(None) => Ok(Effect::Delete(key)),
             Err(ApplyFault::Refused(refusal)) => Ok(Effect::Refused(refusal)),

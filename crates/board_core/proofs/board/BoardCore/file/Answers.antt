@@ -26,8 +26,8 @@ file-requires c =
     let before : Core = core_of b.clock b.slot_now b.requests b.structures b.log in
     let may = subst (λ (y : Core). MayFile y c.args.sample) (sym c.self.view_is) c.requires in
     later-held (session before) before.moments b.channels c.args.sample.param c.args.sample.slot
-        (before-slot b.clock b.slot_now b.requests b.structures b.log (subst IsFit c.tailoring.ensures c.widths-fit.ensures.fit) (c.requests_are_spelled.ensures.only b.log.tailoring) c.self.invariant.board c.args.sample may)
-        c.self.invariant.values
+    (before-slot b.clock b.slot_now b.requests b.structures b.log (subst IsFit c.tailoring.ensures c.widths-fit.ensures.fit) (c.requests_are_spelled.ensures.only b.log.tailoring) c.self.invariant.board c.args.sample may)
+    c.self.invariant.values
 
 pub file-requires-2-clause-value : goal.file-requires-2-clause-value
 file-requires-2-clause-value c =
@@ -54,10 +54,10 @@ invariant_of-self-2 c =
     let h = subst (λ v. AnswersOne b.log b.clock (Filed x.param x.slot v) None c.add_one.new.self (Ok c.in_ok-count.count)) same c.in_ok-count.ensures in
     let files = subst (λ v. Files x.param (sample x.slot v) b.members c.file-2.new.self) same c.file-2.ensures in
     let channels : c.file.new.self ≡ change_channel x.param (filed_channel x.slot x.value) b.channels =
-        c.file.ensures ∙ ap (λ v. change_channel x.param (filed_channel x.slot v) b.channels) same in
+    c.file.ensures ∙ ap (λ v. change_channel x.param (filed_channel x.slot v) b.channels) same in
     subst (λ (cs : List (ℕ × Channel)). IsWhole (core_of b.clock b.slot_now b.requests b.structures c.add_one.new.self) b.requests.waiting b.structures cs c.file-2.new.self) (sym channels)
     (filing-holds b.clock b.slot_now b.requests b.structures b.log (subst IsFit c.tailoring.ensures c.widths-fit.ensures.fit) (c.requests_are_spelled.ensures.only b.log.tailoring) c.self.invariant.board x may
-        c.add_one.new.self c.in_ok-count.count b.channels b.members c.file-2.new.self h files c.self.invariant)
+    c.add_one.new.self c.in_ok-count.count b.channels b.members c.file-2.new.self h files c.self.invariant)
 
 pub returns : goal.returns
 returns c =
@@ -69,4 +69,4 @@ returns c =
     let h = subst (λ v. AnswersOne b.log b.clock (Filed x.param x.slot v) None c.add_one.new.self (Ok c.in_ok-count.count)) same c.in_ok-count.ensures in
     subst (λ (y : Core). Answers y (Filing x) (core_of b.clock b.slot_now b.requests b.structures c.add_one.new.self) (Ok c.in_ok-count.count)) c.self.view_is
     (filed b.clock b.slot_now b.requests b.structures b.log (subst IsFit c.tailoring.ensures c.widths-fit.ensures.fit) (c.requests_are_spelled.ensures.only b.log.tailoring) c.self.invariant.board x may
-        c.add_one.new.self c.in_ok-count.count h).0
+    c.add_one.new.self c.in_ok-count.count h).0

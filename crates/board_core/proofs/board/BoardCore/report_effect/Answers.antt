@@ -16,7 +16,7 @@ returns-in-Some c =
     let before : Core = core_of b.clock b.slot_now b.requests b.structures b.log in
     let ids = c.args.ids.now in
     let found : find (λ id. is_none ((state_of before).value id)) ids ≡ Some c.in-Some.id =
-        sym (without-value before b.channels c.self.invariant.board.stands c.self.invariant.values ids) ∙ sym c.without_value.ensures ∙ c.in-Some.is in
+    sym (without-value before b.channels c.self.invariant.board.stands c.self.invariant.values ids) ∙ sym c.without_value.ensures ∙ c.in-Some.is in
     subst (λ (y : Core). IsEffectOf y (report_values ids) (Refused (NoValue c.in-Some.id))) c.self.view_is
     (values-refusal before.tailoring (state_of before) ids ∙ ap (option_map NoValue) found, tt)
 
@@ -26,7 +26,7 @@ returns-in_ok-from_slice-in-None c =
     let before : Core = core_of b.clock b.slot_now b.requests b.structures b.log in
     let ids = c.args.ids.now in
     let found : find (λ id. is_none ((state_of before).value id)) ids ≡ None =
-        sym (without-value before b.channels c.self.invariant.board.stands c.self.invariant.values ids) ∙ sym c.without_value.ensures ∙ c.in-None.is in
+    sym (without-value before b.channels c.self.invariant.board.stands c.self.invariant.values ids) ∙ sym c.without_value.ensures ∙ c.in-None.is in
     let own = subst (λ (y : Core). AreIds y.tailoring ids) (sym c.self.view_is) c.requires in
     subst (λ (y : Core). IsEffectOf y (report_values ids) (ReportValues c.in_ok-from_slice-in-None.field-0)) c.self.view_is
     (subst (λ (xs : List ℕ). IsEffectOf before (report_values ids) (ReportValues xs)) (sym c.in_ok-from_slice-in-None.ensures)

@@ -22,4 +22,4 @@ returns c =
     let is : c.from_vec-pairs.result ≡ pairs_held b.channels ids = c.from_vec-pairs.ensures ∙ c.in_ok-pairs_of.ensures in
     subst (λ (y : Core). IsOrderedBody y 0 (values_of ids ∷ []) (Some (Par (record { pairs = c.from_vec-pairs.result })))) c.self.view_is
     (values-told before b.channels ids c.from_vec-pairs.result (subst IsFit c.tailoring.ensures c.widths-fit.ensures.fit) (c.requests_are_spelled.ensures.only b.log.tailoring)
-        c.self.invariant.board.stands c.self.invariant.values own none is)
+    c.self.invariant.board.stands c.self.invariant.values own none is)

@@ -5,3 +5,4 @@ pub mod HeadlineLemmas
 pub mod ShownLemmas
 pub mod TailoringLemmas
 pub mod FollowedLemmas
+pub mod CutLemmas

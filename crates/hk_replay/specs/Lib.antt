@@ -7,3 +7,4 @@ pub mod Asked
 pub mod Replay
 pub mod Inputs
 pub mod Truth
+pub mod Cut

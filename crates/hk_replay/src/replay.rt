@@ -1,11 +1,13 @@
 //! One run of the program.
-ghost use Rattle.std.specs.Prelude.{◌≡◌, ◌≤◌, ◌↔◌, ℕ, List, None, Some, Ok, Result, length, map, IfSome, IsSome, IsErrOf};
+ghost use Rattle.std.specs.Prelude.{◌≡◌, ◌≤◌, ◌↔◌, ℕ, List, None, Some, Ok, Result, length, map, take, IfSome, IsSome, IsErrOf};
 ghost use Rattle.std.specs.String.{string_bytes};
 ghost use Rattle.hk_base.specs.Outside.{HasRisen};
 ghost use Rattle.hk_base.specs.TailoringParts.{TailoringParts};
 ghost use Rattle.hk_tailoring.specs.declared.fault.TailoringFault.{TailoringFault};
 ghost use Rattle.pus_messages.specs.Messages.{protocol};
 ghost use Rattle.hk_world.specs.Worlds.{World, IsWorld};
+ghost use Rattle.journaled_records.specs.OwnWorlds.{IsOwnRecord};
+ghost use Rattle.hk_replay.specs.Cut.{IsCutRecord, IsTrueCutRun, IsTrueTrim, Trims};
 ghost use Rattle.hk_replay.specs.Truth.{IsRecordOf, IsTrueFollow, IsTrueRun};
 ghost use Rattle.hk_replay.specs.Words.{command_of};
 ghost use Rattle.hk_replay.specs.Asked.{asked_job, asked_of_record, named};
@@ -23,7 +25,8 @@ use crate::tailorings::{check_line, tailoring_of};
 use crate::words::{Command, Job, RecordCommand, TailoringName, command_in};
 use followed_records::follow_record;
 use hk_base::{Shelf, Sink, Tailoring};
-use record_commands::{encode, show, trimmed};
+use journaled_records::{cut_records, cut_records_are_replayed, own_worlds};
+use record_commands::{encode, show, trimmed, trimmed_octets_are_the_longest_record};
 use session_record::write_all;
 use session_texts::{
     followed_lines_are_true, lines_are_true, records_of_worlds_have_no_problem, texts_are_true,
@@ -56,12 +59,20 @@ pub fn replay_main<F: Shelf, K: Sink>(
     ensures headline { (w : World) → IsWorld w → (t : TailoringParts) → w.session.protocol ≡ protocol t → (octets : List ℕ) → Replays (F.files shelf.old) (command_of (map string_bytes words.now)) t octets → IsRecordOf w octets → IsTrueRun w result (K.taken sink.old) (K.taken sink.new) }
     // The same of a record that is followed: what was written is true, each line of it, also where reading or writing failed.
     ensures following { (w : World) → IsWorld w → (t : TailoringParts) → w.session.protocol ≡ protocol t → (octets : List ℕ) → IsToFollow (F.files shelf.old) (command_of (map string_bytes words.now)) t octets → IsRecordOf w octets → IsTrueFollow w result (K.taken sink.old) (K.taken sink.new) }
+    // A record with a journal tells a world by its own lines. What is trimmed of a first part of it, 8 octets or more, is the record of that world up to a step.
+    ensures trims { (w : World) → (octets : List ℕ) → IsOwnRecord w octets → (n : ℕ) → 8 ≤ length (take n octets) → Trims (F.files shelf.old) (command_of (map string_bytes words.now)) (take n octets) → IsTrueTrim w result (K.taken sink.old) (K.taken sink.new) }
+    // Where such a record of a world up to a step is replayed, what is written is true there, and each sample in the whole of the world.
+    ensures cut { (w : World) → IsWorld w → (t : TailoringParts) → w.session.protocol ≡ protocol t → (octets : List ℕ) → IsCutRecord w octets → Replays (F.files shelf.old) (command_of (map string_bytes words.now)) t octets → IsTrueCutRun w result (K.taken sink.old) (K.taken sink.new) }
 {
     // Laws: they say what is so in each world, and do nothing.
     records_of_worlds_have_no_problem();
     texts_are_true();
     followed_lines_are_true();
     lines_are_true();
+    own_worlds();
+    cut_records();
+    cut_records_are_replayed();
+    trimmed_octets_are_the_longest_record();
     run(alloc, words, shelf, sink)
 }
 

@@ -1,7 +1,7 @@
 pub mod SessionLemmas
 pub mod TakingLemmas
+pub mod StatusLemmas
 pub mod GeneratingLemmas
 pub mod HeadlineLemmas
 pub mod ShownLemmas
-pub mod TailoringLemmas
 pub mod FollowedLemmas

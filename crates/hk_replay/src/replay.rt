@@ -1,30 +1,29 @@
 //! One run of the program.
-ghost use Rattle.std.specs.Prelude.{◌≡◌, ◌≤◌, ◌↔◌, ℕ, List, None, Some, Ok, Result, length, map, IfSome, IsSome, IsErrOf};
+ghost use Rattle.std.specs.Prelude.{◌≡◌, ◌≤◌, ◌↔◌, ◌⊎◌, ℕ, List, None, Some, Ok, Result, length, map, IfSome, IsSome};
 ghost use Rattle.std.specs.String.{string_bytes};
 ghost use Rattle.hk_base.specs.Outside.{HasRisen};
 ghost use Rattle.hk_base.specs.TailoringParts.{TailoringParts};
 ghost use Rattle.hk_tailoring.specs.declared.fault.TailoringFault.{TailoringFault};
 ghost use Rattle.pus_messages.specs.Messages.{protocol};
 ghost use Rattle.hk_world.specs.Worlds.{World, IsWorld};
+ghost use Rattle.program_edge.specs.Inputs.{IsReadOut};
+ghost use Rattle.program_edge.specs.Names.{named};
+ghost use Rattle.program_edge.specs.Tailorings.{octets_of, HasReadFile, IsAbsent, IsAbsentFile, StandsFor};
 ghost use Rattle.hk_replay.specs.Truth.{IsRecordOf, IsTrueFollow, IsTrueRun};
-ghost use Rattle.hk_replay.specs.Words.{command_of};
-ghost use Rattle.hk_replay.specs.Asked.{asked_job, asked_of_record, named};
-ghost use Rattle.hk_replay.specs.Outcomes.{Outcome, outcome_text, record_outcome, follow_outcome, show_outcome, encode_outcome, trim_outcome};
-ghost use Rattle.hk_replay.specs.Replay.{HasOutput, WritesNothing, WritesNothingEarly, WritesNothingElse, WritesNothingOf, ReadsTo, IsOfReading};
-ghost use Rattle.hk_replay.specs.Inputs.{octets_of, StandsFor, told_under, check_outcome, Tells, TellsOf, IsToFollow, Replays, NamesRecord, HasGiven, HasGivenFrom, HasGivenUnder, HasGivenOf};
-ghost use Rattle.record_commands.specs.Showing.{IsShownAsGiven};
-ghost use Rattle.followed_records.specs.Told.{told};
-ghost use Rattle.followed_records.specs.Following.{IsFollowedAsGiven};
+ghost use Rattle.hk_replay.specs.Words.{command_of, on_record};
+ghost use Rattle.hk_replay.specs.Asked.{asked_job, asked_of_record};
+ghost use Rattle.hk_replay.specs.Faults.{IsPlain};
+ghost use Rattle.hk_replay.specs.Outcomes.{Outcome, outcome_text, record_outcome};
+ghost use Rattle.hk_replay.specs.Replay.{HasOutput, WritesNothing, WritesNothingOf};
+ghost use Rattle.hk_replay.specs.Inputs.{told_under, TellsOf, IsToFollow, Replays, NamesRecord, HasGiven, HasGivenFrom, HasGivenUnder, HasGivenOf, HasReadAllOf, LacksInputOf, EndsWithoutInput, EndsWithoutInputOf};
 
-use crate::generated::generated_text;
+use crate::entries::{followed, shown};
+use crate::jobs::made;
 use crate::session::replayed;
 use crate::status::ReplayStatus;
-use crate::tailorings::{check_line, tailoring_of};
-use crate::words::{Command, Job, RecordCommand, TailoringName, command_in};
-use followed_records::follow_record;
+use crate::words::{Command, RecordCommand, command_in};
 use hk_base::{Shelf, Sink, Tailoring};
-use record_commands::{encode, show, trimmed};
-use session_record::write_all;
+use program_edge::{TailoringName, tailoring_of};
 use session_texts::{
     followed_lines_are_true, lines_are_true, records_of_worlds_have_no_problem, texts_are_true,
 };
@@ -41,6 +40,12 @@ pub fn replay_main<F: Shelf, K: Sink>(
     ensures usage { (result ≡ ReplayStatus.Usage) ↔ (command_of (map string_bytes words.now) ≡ None) }
     ensures read_fault { result ≡ ReplayStatus.ReadFault → HasRisen (F.faults shelf.old) (F.faults shelf.new) }
     ensures write_fault { result ≡ ReplayStatus.WriteFault → HasRisen (K.faults sink.old) (K.faults sink.new) }
+    // A failing shelf and want of memory never stand within another status.
+    ensures plain { IsPlain result }
+    // Done says that each named input was read to its end; a record that is trimmed, to where it is cut.
+    ensures end { result ≡ ReplayStatus.Done → HasReadAllOf (F.files shelf.old) (command_of (map string_bytes words.now)) (F.rest shelf.new) }
+    // Where a named input isn't there, that is told, or an earlier fault, and nothing was written.
+    ensures absent { LacksInputOf (F.files shelf.old) (command_of (map string_bytes words.now)) → EndsWithoutInputOf (F.files shelf.old) (command_of (map string_bytes words.now)) result × (K.taken sink.new ≡ K.taken sink.old) }
 
     // What was written. With most statuses it is nothing, whatever the shelf tells.
     ensures nothing { WritesNothing (command_of (map string_bytes words.now)) result (K.taken sink.old) (K.taken sink.new) }
@@ -76,6 +81,12 @@ fn run<F: Shelf, K: Sink>(
     ensures usage { (result ≡ ReplayStatus.Usage) ↔ (command_of (map string_bytes words.now) ≡ None) }
     ensures read_fault { result ≡ ReplayStatus.ReadFault → HasRisen (F.faults shelf.old) (F.faults shelf.new) }
     ensures write_fault { result ≡ ReplayStatus.WriteFault → HasRisen (K.faults sink.old) (K.faults sink.new) }
+    // A failing shelf and want of memory never stand within another status.
+    ensures plain { IsPlain result }
+    // Done says that each named input was read to its end; a record that is trimmed, to where it is cut.
+    ensures end { result ≡ ReplayStatus.Done → HasReadAllOf (F.files shelf.old) (command_of (map string_bytes words.now)) (F.rest shelf.new) }
+    // Where a named input isn't there, that is told, or an earlier fault, and nothing was written.
+    ensures absent { LacksInputOf (F.files shelf.old) (command_of (map string_bytes words.now)) → EndsWithoutInputOf (F.files shelf.old) (command_of (map string_bytes words.now)) result × (K.taken sink.new ≡ K.taken sink.old) }
 
     // What was written. With most statuses it is nothing, whatever the shelf tells.
     ensures nothing { WritesNothing (command_of (map string_bytes words.now)) result (K.taken sink.old) (K.taken sink.new) }
@@ -96,41 +107,6 @@ fn run<F: Shelf, K: Sink>(
     }
 }
 
-/// Makes what a job says, and writes it when it is whole.
-fn made<F: Shelf, K: Sink>(alloc: Global, job: Job<'_>, shelf: &mut F, sink: &mut K) -> ReplayStatus
-    ensures used { result ≡ ReplayStatus.Usage → ⊥ }
-    ensures read_fault { result ≡ ReplayStatus.ReadFault → HasRisen (F.faults shelf.old) (F.faults shelf.new) }
-    ensures write_fault { result ≡ ReplayStatus.WriteFault → HasRisen (K.faults sink.old) (K.faults sink.new) }
-    ensures nothing { WritesNothingEarly result (K.taken sink.old) (K.taken sink.new) }
-    ensures output { (outcome : Outcome) → Tells (F.files shelf.old) (asked_job job.entry) outcome → HasOutput result outcome (K.taken sink.old) (K.taken sink.new) }
-    ensures sound { F.is_sound shelf.old → (outcome : Outcome) → Tells (F.files shelf.old) (asked_job job.entry) outcome → F.faults shelf.new ≡ F.faults shelf.old }
-    ensures room { (outcome : Outcome) → Tells (F.files shelf.old) (asked_job job.entry) outcome → IfSome (K.room sink.old) (λ room. length (outcome_text outcome) ≤ room → K.faults sink.new ≡ K.faults sink.old) }
-{
-    let text = match job_text(alloc, job, shelf) {
-        Ok(text) => text,
-        Err(status) => return status,
-    };
-    match write_all(sink, &text) {
-        Ok(()) => ReplayStatus::Done,
-        Err(_) => ReplayStatus::WriteFault,
-    }
-}
-
-/// What a job makes, or how the run ends without it.
-fn job_text<F: Shelf>(alloc: Global, job: Job<'_>, shelf: &mut F) -> Result<Vec<u8>, ReplayStatus>
-    ensures read_fault { IsErrOf result ReplayStatus.ReadFault → HasRisen (F.faults shelf.old) (F.faults shelf.new) }
-    ensures outcome { (outcome : Outcome) → Tells (F.files shelf.old) (asked_job job.entry) outcome → ReadsTo (λ text. text.items) result outcome }
-    ensures sound { F.is_sound shelf.old → (outcome : Outcome) → Tells (F.files shelf.old) (asked_job job.entry) outcome → F.faults shelf.new ≡ F.faults shelf.old }
-    ensures early { IsOfReading result }
-{
-    match job {
-        Job::Encode(tailoring, name) => encoded_text(alloc, tailoring, name, shelf),
-        Job::Check(tailoring) => checked_text(alloc, tailoring, shelf),
-        Job::Trim(name) => trimmed_text(alloc, name, shelf),
-        Job::Generate(seed, rounds) => Ok(generated_text(alloc, seed, rounds)?),
-    }
-}
-
 /// Does what a command says with the record of this name under a tailoring.
 fn under_tailoring<F: Shelf, K: Sink>(
     alloc: Global,
@@ -141,8 +117,12 @@ fn under_tailoring<F: Shelf, K: Sink>(
     sink: &mut K,
 ) -> ReplayStatus
     ensures used { result ≡ ReplayStatus.Usage → ⊥ }
+    ensures plain { IsPlain result }
     ensures read_fault { result ≡ ReplayStatus.ReadFault → HasRisen (F.faults shelf.old) (F.faults shelf.new) }
     ensures write_fault { result ≡ ReplayStatus.WriteFault → HasRisen (K.faults sink.old) (K.faults sink.new) }
+    ensures end { result ≡ ReplayStatus.Done → HasReadFile (F.files shelf.old) (F.rest shelf.new) }
+    ensures absent { IsAbsent (F.files shelf.old) (named tailoring.entry) ⊎ IsAbsentFile (F.files shelf.old) name.now
+        → EndsWithoutInput (F.files shelf.old) (on_record (asked_of_record command) (named tailoring.entry) name.now) result × (K.taken sink.new ≡ K.taken sink.old) }
     ensures nothing { WritesNothingOf (asked_of_record command) result (K.taken sink.old) (K.taken sink.new) }
     ensures output { (meant : Result TailoringParts TailoringFault) → StandsFor (F.files shelf.old) (named tailoring.entry) meant → IfSome (told_under (record_outcome (asked_of_record command)) (octets_of (F.files shelf.old) name.now) meant) (λ outcome. HasOutput result outcome (K.taken sink.old) (K.taken sink.new)) }
     ensures given { (t : TailoringParts) → (octets : List ℕ) → StandsFor (F.files shelf.old) (named tailoring.entry) (Ok t) → octets_of (F.files shelf.old) name.now ≡ Some octets → result ≡ ReplayStatus.ReadFault → HasGivenUnder (asked_of_record command) (F.files shelf.old) (named tailoring.entry) t octets (F.rest shelf.old) (F.rest shelf.new) (K.taken sink.old) (K.taken sink.new) }
@@ -151,7 +131,7 @@ fn under_tailoring<F: Shelf, K: Sink>(
 {
     match tailoring_of(alloc, tailoring, shelf) {
         Ok(tailoring) => on_named(alloc, command, &tailoring, name, shelf, sink),
-        Err(status) => status,
+        Err(fault) => fault.into(),
     }
 }
 
@@ -165,8 +145,11 @@ fn on_named<F: Shelf, K: Sink>(
     sink: &mut K,
 ) -> ReplayStatus
     ensures used { result ≡ ReplayStatus.Usage → ⊥ }
+    ensures plain { IsPlain result }
     ensures read_fault { result ≡ ReplayStatus.ReadFault → HasRisen (F.faults shelf.old) (F.faults shelf.new) }
     ensures write_fault { result ≡ ReplayStatus.WriteFault → HasRisen (K.faults sink.old) (K.faults sink.new) }
+    ensures end { result ≡ ReplayStatus.Done → HasReadFile (F.files shelf.old) (F.rest shelf.new) }
+    ensures absent { IsAbsentFile (F.files shelf.old) name.now → (result ≡ ReplayStatus.ReadFault) × (K.taken sink.new ≡ K.taken sink.old) }
     ensures nothing { WritesNothingOf (asked_of_record command) result (K.taken sink.old) (K.taken sink.new) }
     ensures output { IfSome (octets_of (F.files shelf.old) name.now) (λ octets. HasOutput result (record_outcome (asked_of_record command) tailoring.now octets) (K.taken sink.old) (K.taken sink.new)) }
     ensures given { IfSome (octets_of (F.files shelf.old) name.now) (λ octets. result ≡ ReplayStatus.ReadFault → HasGivenFrom (asked_of_record command) tailoring.now octets (F.rest shelf.old) (F.rest shelf.new) (K.taken sink.old) (K.taken sink.new)) }
@@ -188,8 +171,10 @@ fn on_selected<F: Shelf, K: Sink>(
     sink: &mut K,
 ) -> ReplayStatus
     ensures used { result ≡ ReplayStatus.Usage → ⊥ }
+    ensures plain { IsPlain result }
     ensures read_fault { result ≡ ReplayStatus.ReadFault → HasRisen (F.faults shelf.old) (F.faults shelf.new) }
     ensures write_fault { result ≡ ReplayStatus.WriteFault → HasRisen (K.faults sink.old) (K.faults sink.new) }
+    ensures end { result ≡ ReplayStatus.Done → IsReadOut (F.rest shelf.old) (F.rest shelf.new) }
     ensures nothing { WritesNothingOf (asked_of_record command) result (K.taken sink.old) (K.taken sink.new) }
     ensures output { IfSome (F.rest shelf.old) (λ octets. HasOutput result (record_outcome (asked_of_record command) tailoring.now octets) (K.taken sink.old) (K.taken sink.new)) }
     ensures given { IfSome (F.rest shelf.old) (λ octets. result ≡ ReplayStatus.ReadFault → HasGiven (asked_of_record command) tailoring.now octets (F.rest shelf.new) (K.taken sink.old) (K.taken sink.new)) }
@@ -201,111 +186,4 @@ fn on_selected<F: Shelf, K: Sink>(
         RecordCommand::Follow => followed(alloc, tailoring, shelf, sink),
         RecordCommand::Show => shown(alloc, tailoring, shelf, sink),
     }
-}
-
-/// Writes what is told of each entry of the record that the shelf has selected, before the next one is read, and the rest at the end.
-fn followed<F: Shelf, K: Sink>(
-    alloc: Global,
-    tailoring: &Tailoring,
-    shelf: &mut F,
-    sink: &mut K,
-) -> ReplayStatus
-    ensures used { result ≡ ReplayStatus.Usage → ⊥ }
-    ensures read_fault { result ≡ ReplayStatus.ReadFault → HasRisen (F.faults shelf.old) (F.faults shelf.new) }
-    ensures write_fault { result ≡ ReplayStatus.WriteFault → HasRisen (K.faults sink.old) (K.faults sink.new) }
-    ensures nothing { WritesNothingElse result (K.taken sink.old) (K.taken sink.new) }
-    ensures output { IfSome (F.rest shelf.old) (λ octets. HasOutput result (follow_outcome tailoring.now octets) (K.taken sink.old) (K.taken sink.new)) }
-    ensures given { IfSome (F.rest shelf.old) (λ octets. result ≡ ReplayStatus.ReadFault → IsFollowedAsGiven (told tailoring.now) octets (F.rest shelf.new) (K.taken sink.old) (K.taken sink.new)) }
-    ensures sound { F.is_sound shelf.old → IsSome (F.rest shelf.old) → F.faults shelf.new ≡ F.faults shelf.old }
-    ensures room { IfSome (F.rest shelf.old) (λ octets. IfSome (K.room sink.old) (λ room. length (outcome_text (follow_outcome tailoring.now octets)) ≤ room → K.faults sink.new ≡ K.faults sink.old)) }
-{
-    if let Err(fault) = follow_record(alloc, tailoring, shelf, sink) {
-        return fault.into();
-    }
-    ReplayStatus::Done
-}
-
-/// Writes a line for each entry of the record that the shelf has selected, before the next one is read.
-fn shown<F: Shelf, K: Sink>(
-    alloc: Global,
-    tailoring: &Tailoring,
-    shelf: &mut F,
-    sink: &mut K,
-) -> ReplayStatus
-    ensures used { result ≡ ReplayStatus.Usage → ⊥ }
-    ensures read_fault { result ≡ ReplayStatus.ReadFault → HasRisen (F.faults shelf.old) (F.faults shelf.new) }
-    ensures write_fault { result ≡ ReplayStatus.WriteFault → HasRisen (K.faults sink.old) (K.faults sink.new) }
-    ensures nothing { WritesNothingElse result (K.taken sink.old) (K.taken sink.new) }
-    ensures output { IfSome (F.rest shelf.old) (λ octets. HasOutput result (show_outcome tailoring.now octets) (K.taken sink.old) (K.taken sink.new)) }
-    ensures given { IfSome (F.rest shelf.old) (λ octets. result ≡ ReplayStatus.ReadFault → IsShownAsGiven tailoring.now octets (F.rest shelf.new) (K.taken sink.old) (K.taken sink.new)) }
-    ensures sound { F.is_sound shelf.old → IsSome (F.rest shelf.old) → F.faults shelf.new ≡ F.faults shelf.old }
-    ensures room { IfSome (F.rest shelf.old) (λ octets. IfSome (K.room sink.old) (λ room. length (outcome_text (show_outcome tailoring.now octets)) ≤ room → K.faults sink.new ≡ K.faults sink.old)) }
-{
-    if let Err(fault) = show(alloc, tailoring, shelf, sink) {
-        return fault.into();
-    }
-    ReplayStatus::Done
-}
-
-/// The record of the lines of this name under a tailoring, or how the run ends without it.
-fn encoded_text<F: Shelf>(
-    alloc: Global,
-    tailoring: TailoringName<'_>,
-    name: &str,
-    shelf: &mut F,
-) -> Result<Vec<u8>, ReplayStatus>
-    ensures read_fault { IsErrOf result ReplayStatus.ReadFault → HasRisen (F.faults shelf.old) (F.faults shelf.new) }
-    ensures outcome { (meant : Result TailoringParts TailoringFault) → StandsFor (F.files shelf.old) (named tailoring.entry) meant → IfSome (told_under encode_outcome (octets_of (F.files shelf.old) name.now) meant) (ReadsTo (λ text. text.items) result) }
-    ensures sound { F.is_sound shelf.old → (meant : Result TailoringParts TailoringFault) → StandsFor (F.files shelf.old) (named tailoring.entry) meant → IsSome (told_under encode_outcome (octets_of (F.files shelf.old) name.now) meant) → F.faults shelf.new ≡ F.faults shelf.old }
-    ensures early { IsOfReading result }
-{
-    let tailoring = tailoring_of(alloc, tailoring, shelf)?;
-    lines_text(alloc, &tailoring, name, shelf)
-}
-
-/// The record of the lines of this name, or how the run ends without it.
-fn lines_text<F: Shelf>(
-    alloc: Global,
-    tailoring: &Tailoring,
-    name: &str,
-    shelf: &mut F,
-) -> Result<Vec<u8>, ReplayStatus>
-    ensures read_fault { IsErrOf result ReplayStatus.ReadFault → HasRisen (F.faults shelf.old) (F.faults shelf.new) }
-    ensures outcome { IfSome (octets_of (F.files shelf.old) name.now) (λ octets. ReadsTo (λ text. text.items) result (encode_outcome tailoring.now octets)) }
-    ensures sound { F.is_sound shelf.old → IsSome (octets_of (F.files shelf.old) name.now) → F.faults shelf.new ≡ F.faults shelf.old }
-    ensures early { IsOfReading result }
-{
-    if shelf.select(name).is_err() {
-        return Err(ReplayStatus::ReadFault);
-    }
-    let record = encode(alloc, tailoring, shelf)?;
-    Ok(record.into_vec())
-}
-
-/// The line for a tailoring without fault, or how the run ends without it.
-fn checked_text<F: Shelf>(
-    alloc: Global,
-    tailoring: TailoringName<'_>,
-    shelf: &mut F,
-) -> Result<Vec<u8>, ReplayStatus>
-    ensures read_fault { IsErrOf result ReplayStatus.ReadFault → HasRisen (F.faults shelf.old) (F.faults shelf.new) }
-    ensures outcome { (meant : Result TailoringParts TailoringFault) → StandsFor (F.files shelf.old) (named tailoring.entry) meant → ReadsTo (λ text. text.items) result (check_outcome meant) }
-    ensures sound { F.is_sound shelf.old → (meant : Result TailoringParts TailoringFault) → StandsFor (F.files shelf.old) (named tailoring.entry) meant → F.faults shelf.new ≡ F.faults shelf.old }
-    ensures early { IsOfReading result }
-{
-    let tailoring = tailoring_of(alloc, tailoring, shelf)?;
-    Ok(check_line(alloc, &tailoring)?)
-}
-
-/// The header and the whole entries of the record of this name, or how the run ends without them.
-fn trimmed_text<F: Shelf>(alloc: Global, name: &str, shelf: &mut F) -> Result<Vec<u8>, ReplayStatus>
-    ensures read_fault { IsErrOf result ReplayStatus.ReadFault → HasRisen (F.faults shelf.old) (F.faults shelf.new) }
-    ensures outcome { IfSome (octets_of (F.files shelf.old) name.now) (λ octets. ReadsTo (λ text. text.items) result (trim_outcome octets)) }
-    ensures sound { F.is_sound shelf.old → IsSome (octets_of (F.files shelf.old) name.now) → F.faults shelf.new ≡ F.faults shelf.old }
-    ensures early { IsOfReading result }
-{
-    if shelf.select(name).is_err() {
-        return Err(ReplayStatus::ReadFault);
-    }
-    Ok(trimmed(alloc, shelf)?)
 }

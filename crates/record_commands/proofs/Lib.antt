@@ -1,5 +1,5 @@
+pub mod CutLemmas
 pub mod ToComeLemmas
 pub mod TrimLemmas
 pub mod ShowLemmas
-pub mod InputLemmas
 pub mod EncodeLemmas

@@ -1,0 +1,4 @@
+pub mod FaultLemmas
+pub mod InputLemmas
+pub mod ReaderLemmas
+pub mod TailoringLemmas

@@ -1,6 +1,6 @@
 -- What the status is of a fault that a part of a run ended with.
-use Rattle.std.proofs.Common.{◌≡◌, ℕ, List, Option, Some, None, Result, Ok, Err, refl, subst}
-use Rattle.std.specs.Prelude.{IfSome, IsErrAnd, IsSome, IsErrOf}
+use Rattle.std.proofs.Common.{◌≡◌, ◌⊎◌, inl, inr, ℕ, List, Bool, false, Option, Some, None, Result, Ok, Err, refl, sym, subst}
+use Rattle.std.specs.Prelude.{IfSome, IsErrAnd, IsSome, IsErrOf, OnOk, is_err}
 use Rattle.hk_base.specs.TailoringParts.{TailoringParts}
 use Rattle.hk_base.specs.Outside.{Selects}
 use Rattle.hk_tailoring.specs.declared.fault.TailoringFault.{TailoringFault}
@@ -10,15 +10,14 @@ use Rattle.session_record.specs.declared.entry.RecordFault.{RecordFault}
 use Rattle.session_record.specs.declared.entry.RecordFault.TheVariants as record_fault
 use Rattle.ground_history.specs.declared.answer.SentFault.{SentFault}
 use Rattle.ground_history.specs.declared.answer.SentFault.TheVariants as sent
-use Rattle.session_texts.specs.declared.problem.RecordProblem.{RecordProblem}
 use Rattle.program_edge.specs.Faults.{ByLines, ByRecord, ByTailoring}
 use Rattle.program_edge.specs.Inputs.{IsReadOut}
 use Rattle.program_edge.specs.Names.{TailoringName}
-use Rattle.program_edge.specs.Tailorings.{octets_of, EndsWithout, IsAbsent, IsMeant, StandsFor}
+use Rattle.program_edge.specs.Tailorings.{octets_of, EndsWithout, IsAbsent, IsAbsentFile, StandsFor}
 use Rattle.program_edge.specs.declared.fault.RunFault.{RunFault}
 use Rattle.program_edge.specs.declared.fault.RunFault.TheVariants as run
-use Rattle.program_edge.proofs.FaultLemmas.{same_err}
 use Rattle.program_edge.proofs.ReaderLemmas.{read_out_at_end, read_out_since, told_on}
+use Rattle.record_commands.specs.Encoding.{encoded, Encodes}
 use Rattle.record_commands.specs.Showing.{IsShownAsGiven, Shows}
 use Rattle.record_commands.specs.Trimming.{HasReadWhole}
 use Rattle.followed_records.specs.Faults.{ByFollowing}
@@ -26,7 +25,7 @@ use Rattle.followed_records.specs.declared.fault.FollowingFault.{FollowingFault}
 use Rattle.followed_records.specs.declared.fault.FollowingFault.TheVariants as following
 use Rattle.hk_replay.specs.Words.{RecordCommand, replay, follow, show, on_record, encode}
 use Rattle.hk_replay.specs.Faults.{status_of_entry, status_of_fault, status_of_following, status_of_run, IsPlain}
-use Rattle.hk_replay.specs.Outcomes.{Outcome, stopped}
+use Rattle.hk_replay.specs.Outcomes.{Outcome, encode_outcome, made_outcome}
 use Rattle.hk_replay.specs.Replay.{EndsWith, HasOutput, IsReadingStatus, WritesNothingElse, WritesNothingOf}
 use Rattle.hk_replay.specs.Inputs.{told_under, check_outcome, EndsWithoutInput, IsFaultUnder}
 use Rattle.hk_replay.specs.Taking.{IsReadOutAfter}
@@ -305,3 +304,35 @@ shown_given t (Some octets) left before after (run.Line n) shows = λ is. absurd
 shown_given t (Some octets) left before after (run.Record f) shows = λ is. absurd (cc is)
 shown_given t (Some octets) left before after run.WriteFault shows = λ is. absurd (cc is)
 shown_given t (Some octets) left before after run.NoMemory shows = λ is. absurd (cc is)
+
+-- of two inputs the second one isn't there
+pub lacking_second : (files now : Option (List (List ℕ × List ℕ))) (tailoring : TailoringName) (name : List ℕ) (P : Type 0) → IsAbsent files tailoring ⊎ IsAbsentFile files name → now ≡ files
+    → (IsAbsent files tailoring → ⊥) → (IsAbsentFile now name → P) → P
+lacking_second files now tailoring name P (inl gone) same there second = absurd (there gone)
+lacking_second files now tailoring name P (inr gone) same there second = second (subst (λ (fs : Option (List (List ℕ × List ℕ))). IsAbsentFile fs name) (sym same) gone)
+
+pub ok_err : {T E : Type 0} (x : T) (e : E) → ◌≡◌ {A = Result T E} (Ok x) (Err e) → ⊥
+ok_err x e is = cc
+
+-- what an Ok says
+pub of_ok : {T E : Type 0} (r : Result T E) (P : Type 0) → is_err r ≡ false → OnOk r P → P
+of_ok (Ok x) P is holds = holds
+of_ok (Err e) P is holds = absurd (cc is)
+
+-- how a run ends that made no record of lines
+encodes_ends : (f : RunFault) (given : Result (List ℕ) ℕ) → Encodes (Err f) given → EndsWith (status_of_run f) (made_outcome given)
+encodes_ends (run.Line n) given made = subst (λ (x : Result (List ℕ) ℕ). EndsWith (status.Text n) (made_outcome x)) (sym made) refl
+encodes_ends run.ReadFault given made = tt
+encodes_ends run.NoMemory given made = tt
+encodes_ends run.WriteFault given made = absurd made
+encodes_ends (run.Tailoring f) given made = absurd made
+encodes_ends (run.Record f) given made = absurd made
+
+pub lines_end : (t : TailoringParts) (files : Option (List (List ℕ × List ℕ))) (name : List ℕ) (rest : Option (List ℕ)) (f : RunFault) → Selects files name rest
+    → IfSome rest (λ octets. Encodes (Err f) (encoded t octets)) → IfSome (octets_of files name) (λ octets. EndsWith (status_of_run f) (encode_outcome t octets))
+lines_end t None name rest f selects made = tt
+lines_end t (Some all) name rest f selects made = subst (λ (o : Option (List ℕ)). IfSome o (λ octets. EndsWith (status_of_run f) (encode_outcome t octets))) selects.1 (each rest made)
+  where
+    each : (o : Option (List ℕ)) → IfSome o (λ octets. Encodes (Err f) (encoded t octets)) → IfSome o (λ octets. EndsWith (status_of_run f) (encode_outcome t octets))
+    each None h = tt
+    each (Some octets) h = encodes_ends f (encoded t octets) h

@@ -2,7 +2,8 @@
 use Rattle.std.specs.Prelude.{⊤, ℕ, List, [], ◌++◌, codes}
 use Rattle.std.specs.Fmt.{decimal}
 use Rattle.session_record.specs.declared.entry.RecordFault.{RecordFault}
-use Rattle.program_edge.specs.Faults.{fault_of_record, IsOfTailoring}
+use Rattle.session_record.specs.declared.entry.RecordFault.TheVariants as fault
+use Rattle.program_edge.specs.Faults.{IsOfTailoring}
 use Rattle.program_edge.specs.Texts.{format_text, line_text, tailoring_text}
 use Rattle.program_edge.specs.declared.fault.RunFault.{RunFault}
 use Rattle.program_edge.specs.declared.fault.RunFault.TheVariants as run
@@ -38,7 +39,13 @@ status_of_run run.NoMemory = NoMemory
 
 -- how a run ends by a fault of reading the record: a failing shelf and want of memory have statuses of their own
 abbrev pub status_of_fault : RecordFault → ReplayStatus
-status_of_fault f = status_of_run (fault_of_record f)
+status_of_fault fault.ReadFault = ReadFault
+status_of_fault fault.Memory = NoMemory
+status_of_fault fault.BadMagic = Record (Format fault.BadMagic)
+status_of_fault (fault.BadKind octet offset) = Record (Format (fault.BadKind octet offset))
+status_of_fault (fault.Cut offset) = Record (Format (fault.Cut offset))
+status_of_fault (fault.TooLong offset) = Record (Format (fault.TooLong offset))
+status_of_fault (fault.TooManyEntries offset) = Record (Format (fault.TooManyEntries offset))
 
 -- how a run ends by a request that can't stand in the entry at an offset: want of memory has a status of its own
 abbrev pub status_of_entry : SentFault → ℕ → ReplayStatus

@@ -16,7 +16,9 @@ pub use draft::Draft;
 pub use edge::{complain, words};
 pub use fault::RunFault;
 pub use inputs::{PIECE_OCTETS, input_octets};
-pub use numbers::{BAD_LINE, BAD_RECORD, BAD_TAILORING, DONE, NO_MEMORY, READ_FAULT, USAGE, WRITE_FAULT};
+pub use numbers::{
+    BAD_LINE, BAD_RECORD, BAD_TAILORING, DONE, NO_MEMORY, READ_FAULT, USAGE, WRITE_FAULT,
+};
 pub use outside::{FileShelf, OutSink};
 pub use tailorings::{TailoringName, tailoring_named, tailoring_of};
 pub use texts::{format_text, line_text, plain_text, tailoring_text};

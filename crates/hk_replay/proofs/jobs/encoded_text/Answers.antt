@@ -1,10 +1,15 @@
-use Rattle.std.proofs.Common.{◌≡◌, Err, sym, ap, subst, ◌∙◌}
+use Rattle.std.proofs.Common.{◌≡◌, ℕ, List, Option, Err, sym, ap, subst, ◌∙◌}
 use Rattle.std.proofs.lemmas.Result.{err_from_is_err_and}
 use Rattle.program_edge.specs.Names.{named}
-use Rattle.program_edge.specs.Tailorings.{octets_of, IsAbsentFile}
+use Rattle.program_edge.specs.Tailorings.{octets_of}
 use Rattle.program_edge.proofs.FaultLemmas.{same_err}
 use Rattle.hk_replay.specs.Outcomes.{encode_outcome}
-use Rattle.hk_replay.proofs.StatusLemmas.{lacking_lines, plain_tailoring, read_run, reading_tailoring, without}
+use Rattle.program_edge.specs.Tailorings.{HasReadFile}
+use Rattle.std.specs.Prelude.{IsErrAnd, OnOk}
+use Rattle.hk_replay.specs.Words as command
+use Rattle.hk_replay.specs.Inputs.{EndsWithoutInput}
+use Rattle.hk_replay.specs.declared.status.ReplayStatus.TheVariants as status
+use Rattle.hk_replay.proofs.StatusLemmas.{err_and, lacking_lines, lacking_second, ok_err, plain_tailoring, read_run, reading_tailoring, without}
 use Rattle.hk_replay.proofs.jobs.encoded_text.Goals as goal
 
 pub returns-in_err-tailoring-clause-early : goal.returns-in_err-tailoring-clause-early
@@ -31,3 +36,17 @@ pub returns-in_err-tailoring-clause-absent : goal.returns-in_err-tailoring-claus
 returns-in_err-tailoring-clause-absent g c =
     let p = err_from_is_err_and c.from_residual.result c.from_residual.ensures.1 in
     rw (p.1, p.2) (λ gone. lacking_lines c.in_err-tailoring.field-0.0 (g.F.Shelf.files c.args.shelf.now) (named c.args.tailoring.entry) c.args.name.now c.in_err-tailoring.ensures.causes c.in_err-tailoring.ensures.absent c.in_err-tailoring.ensures.meant)
+
+pub returns-clause-end : goal.returns-clause-end
+returns-clause-end g c = 
+    subst (λ (fs : Option (List (List ℕ × List ℕ))). OnOk c.lines_text.result (HasReadFile fs (g.F.Shelf.rest c.lines_text.new.shelf))) c.tailoring_of.ensures.files c.lines_text.ensures.end
+
+pub returns-clause-absent : goal.returns-clause-absent
+returns-clause-absent g c = 
+    let files = g.F.Shelf.files c.args.shelf.now in
+    let name = c.args.name.now in
+    let what = command.encode (named c.args.tailoring.entry) name in
+    λ gone.
+    lacking_second files (g.F.Shelf.files c.tailoring_of.new.shelf) (named c.args.tailoring.entry) name (IsErrAnd c.lines_text.result (EndsWithoutInput files what)) gone c.tailoring_of.ensures.files
+    (λ first. ok_err _ _ (c.in_ok-tailoring.ensures.absent first))
+    (λ second. err_and c.lines_text.result status.ReadFault (EndsWithoutInput files what) (c.lines_text.ensures.absent second) tt)

@@ -1,7 +1,7 @@
-use Rattle.std.proofs.Common.{◌≡◌, Err, refl, sym, ap, subst, ◌∙◌}
+use Rattle.std.proofs.Common.{◌≡◌, ℕ, List, Option, Err, inl, refl, sym, ap, subst, ◌∙◌}
 use Rattle.std.specs.Prelude.{IfSome}
 use Rattle.program_edge.specs.Names.{named}
-use Rattle.program_edge.specs.Tailorings.{octets_of}
+use Rattle.program_edge.specs.Tailorings.{octets_of, HasReadFile}
 use Rattle.hk_replay.specs.Words.{on_record}
 use Rattle.hk_replay.specs.Asked.{asked_of_record}
 use Rattle.hk_replay.specs.Faults.{IsPlain}
@@ -9,7 +9,7 @@ use Rattle.hk_replay.specs.Outcomes.{record_outcome}
 use Rattle.hk_replay.specs.Replay.{HasOutput, WritesNothingOf}
 use Rattle.hk_replay.specs.Inputs.{told_under, EndsWithoutInput}
 use Rattle.hk_replay.specs.declared.status.ReplayStatus.{ReplayStatus}
-use Rattle.hk_replay.proofs.StatusLemmas.{lacking_record, nothing_same, plain_tailoring, read_run, undone, unwritten, used, without_output}
+use Rattle.hk_replay.proofs.StatusLemmas.{lacking_record, lacking_second, ok_err, nothing_same, plain_tailoring, read_run, undone, unwritten, used, without_output}
 use Rattle.hk_replay.proofs.replay.under_tailoring.Goals as goal
 
 pub returns-in-Err-clause-used : goal.returns-in-Err-clause-used
@@ -51,3 +51,18 @@ returns-in-Err-clause-absent g c =
 
 pub returns-in-Err-clause-given : goal.returns-in-Err-clause-given
 returns-in-Err-clause-given g c = λ t octets stands told failed. inl (c.in-Err.ensures.moves, refl)
+
+pub returns-in-Ok-clause-end : goal.returns-in-Ok-clause-end
+returns-in-Ok-clause-end g c = λ done.
+    subst (λ (fs : Option (List (List ℕ × List ℕ))). HasReadFile fs (g.F.Shelf.rest c.on_named.new.shelf)) c.tailoring_of.ensures.files (c.on_named.ensures.end done)
+
+pub returns-in-Ok-clause-absent : goal.returns-in-Ok-clause-absent
+returns-in-Ok-clause-absent g c = 
+    let files = g.F.Shelf.files c.args.shelf.now in
+    let name = c.args.name.now in
+    let what = on_record (asked_of_record c.args.command) (named c.args.tailoring.entry) name in
+    λ gone.
+    lacking_second files (g.F.Shelf.files c.tailoring_of.new.shelf) (named c.args.tailoring.entry) name
+    (EndsWithoutInput files what c.on_named.result × (g.K.Sink.taken c.on_named.new.sink ≡ g.K.Sink.taken c.args.sink.now)) gone c.tailoring_of.ensures.files
+    (λ first. ok_err _ _ (c.in-Ok.ensures.absent first))
+    (λ second. let told = c.on_named.ensures.absent second in (subst (λ (s : ReplayStatus). EndsWithoutInput files what s) (sym told.0) tt, told.1))

@@ -3,3 +3,4 @@ pub mod ToComeLemmas
 pub mod TrimLemmas
 pub mod ShowLemmas
 pub mod EncodeLemmas
+pub mod WholeLemmas

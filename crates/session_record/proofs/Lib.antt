@@ -5,3 +5,4 @@ pub mod OnwardLemmas
 pub mod WritingLemmas
 pub mod RecordLemmas
 pub mod TrimLemmas
+pub mod FrontLemmas

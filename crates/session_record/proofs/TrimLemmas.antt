@@ -17,7 +17,7 @@ use Rattle.session_record.proofs.NextLemmas.{header-long, header-more, next-more
 abbrev pub whole_octets : Entries → List ℕ
 whole_octets entries = flat_map entry_octets (map (λ e. e.1) entries.list)
 
-length-entry : (e : Entry) → length (entry_octets e) ≡ entry_size e
+pub length-entry : (e : Entry) → length (entry_octets e) ≡ entry_size e
 length-entry e = let sizes = length-append (octets_of 4 (length (held_octets e))) (held_octets e) in omega arith
 
 -- an entry of a kind holds what it is made of
@@ -66,17 +66,17 @@ after-some offset kind rest (Some make) found =
     by_tests false false true e found = cc found
     by_tests false false false e found = cc found
 
-none-found : (room offset : ℕ) (octets : List ℕ) → next_entry room offset octets ≡ Ok None → octets ≡ []
+pub none-found : (room offset : ℕ) (octets : List ℕ) → next_entry room offset octets ≡ Ok None → octets ≡ []
 none-found room offset [] found = refl
 none-found zero offset (kind ∷ rest) found = absurd (cc found)
 none-found (suc room) offset (kind ∷ rest) found = absurd (after-some offset kind rest (entry_of_kind kind) found)
 
-found-within : (room offset : ℕ) (octets : List ℕ) (e : Entry) → next_entry (suc room) offset octets ≡ Ok (Some e)
+pub found-within : (room offset : ℕ) (octets : List ℕ) (e : Entry) → next_entry (suc room) offset octets ≡ Ok (Some e)
     → (entry_size e ≤ length octets) × (offset + entry_size e ≤ most_octets)
 found-within room offset [] e found = absurd (cc found)
 found-within room offset (kind ∷ rest) e found = after-within offset kind rest (entry_of_kind kind) e refl found
 
-none-beyond : (offset : ℕ) (octets : List ℕ) (e : Entry) → next_entry zero offset octets ≡ Ok (Some e) → ⊥
+pub none-beyond : (offset : ℕ) (octets : List ℕ) (e : Entry) → next_entry zero offset octets ≡ Ok (Some e) → ⊥
 none-beyond offset [] e found = cc found
 none-beyond offset (kind ∷ rest) e found = cc found
 
@@ -147,7 +147,7 @@ no-longer part more front is clean = by_header (header_in part) refl
         omega (arith, within, trimmed-size h (entries_from most_entries 8 (drop 8 part ++ more)), ap (λ (xs : List ℕ). length xs) same, length-drop 8 part)
 
 -- the entries that were read are those of a record
-entries-fit : (room offset : ℕ) (octets : List ℕ) → FitIn room offset (map (λ e. e.1) (entries_from room offset octets).list)
+pub entries-fit : (room offset : ℕ) (octets : List ℕ) → FitIn room offset (map (λ e. e.1) (entries_from room offset octets).list)
 entries-fit zero offset octets = by_next (next_entry zero offset octets) refl
   where
     by_next : (n : Result (Option Entry) RecordFault) → next_entry zero offset octets ≡ n → FitIn zero offset (map (λ e. e.1) (entries_from zero offset octets).list)

@@ -1,5 +1,6 @@
 //! What the definitions of a record imply.
-ghost use Rattle.std.specs.Prelude.{◌≡◌, ◌≤◌, ℕ, List, Some, None, Ok, length, take};
+ghost use Rattle.std.specs.Prelude.{◌≡◌, ◌<◌, ◌≤◌, ℕ, List, Some, None, Ok, ◌++◌, length, take};
+ghost use Rattle.std.specs.List.{AllByRecursion};
 ghost use Rattle.session_record.specs.Records.{record_fault, trimmed, Header, located, most_entries, read_record, record_octets, FitIn};
 ghost use Rattle.session_record.specs.declared.entry.Entry.{Entry};
 
@@ -9,8 +10,11 @@ pub fn records_are_read_back()
         → read_record (record_octets h entries) ≡ Ok (h, record { list = located 8 entries; fault = None }) }
 {}
 
-/// What is left of octets when they are trimmed is a record without a fault, and no first part of them that is one is longer.
+/// What is left of octets when they are trimmed is a first part of them and a record without a fault, and no first part of them
+/// that is one is longer.
 pub fn trimmed_is_the_longest_record()
+    ensures front { (octets front : List ℕ) → AllByRecursion (λ octet. octet < 256) octets → trimmed octets ≡ Some front
+        → (rest : List ℕ) × (octets ≡ front ++ rest) }
     ensures whole { (octets front : List ℕ) → trimmed octets ≡ Some front → record_fault front ≡ None }
     ensures longest { (octets front : List ℕ) (n : ℕ) → trimmed octets ≡ Some front → record_fault (take n octets) ≡ None
         → length (take n octets) ≤ length front }

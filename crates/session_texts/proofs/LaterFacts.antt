@@ -39,10 +39,10 @@ abbrev pub world_of : Session → List Step → World
 world_of s steps = record { session = s; steps = steps }
 
 -- a moment of a prefix is one of the whole
-abbrev IsAmong : List Moment → Moment → Type 0
+abbrev pub IsAmong : List Moment → Moment → Type 0
 IsAmong moments m = (i : ℕ) × (slice_get moments i ≡ Some m)
 
-moment-later : (later earlier : List Step) (m : Moment) → IsAmong (moments_of earlier) m → IsAmong (moments_of (later ++ earlier)) m
+pub moment-later : (later earlier : List Step) (m : Moment) → IsAmong (moments_of earlier) m → IsAmong (moments_of (later ++ earlier)) m
 moment-later [] earlier m x = x
 moment-later (send k ∷ later) earlier m x = moment-later later earlier m x
 moment-later (deliver n ∷ later) earlier m x = moment-later later earlier m x
@@ -57,7 +57,7 @@ delivery-later (stray packet ∷ later) earlier m x = delivery-later later earli
 delivery-later (deliver n ∷ later) earlier m x = let r = delivery-later later earlier m x in (suc r.0, r.1)
 
 -- what a prefix reports the whole reports
-reports-later : (s : Session) (later earlier : List Step) (tag : ℕ) (body : ReportBody) → Reports (world_of s earlier) tag body → Reports (world_of s (later ++ earlier)) tag body
+pub reports-later : (s : Session) (later earlier : List Step) (tag : ℕ) (body : ReportBody) → Reports (world_of s earlier) tag body → Reports (world_of s (later ++ earlier)) tag body
 reports-later s later earlier tag body r = let x = moment-later later earlier r.1 (r.0, r.2) in (x.0, r.1, x.1, r.3, r.4)
 
 report-later : (s : Session) (later earlier : List Step) (tag : ℕ) (body : ReportBody) → IsOfReport (world_of s earlier) tag body → IsOfReport (world_of s (later ++ earlier)) tag body
@@ -85,7 +85,7 @@ before-same s (happen n ∷ later) earlier h x i =
     ap (λ b. cond b (n ∷ rest) rest) (le-ltb n.tag x.tag (omega (arith, above))) ∙ before-same s later earlier h.1 x i
 
 -- the state at the tag of a report stays
-state-same : (s : Session) (later earlier : List Step) → EachAfter (MayStep s) (later ++ earlier) → (tag : ℕ) (body : ReportBody) → Reports (world_of s earlier) tag body
+pub state-same : (s : Session) (later earlier : List Step) → EachAfter (MayStep s) (later ++ earlier) → (tag : ℕ) (body : ReportBody) → Reports (world_of s earlier) tag body
     → world_state_at (world_of s earlier) tag ≡ world_state_at (world_of s (later ++ earlier)) tag
 state-same s later earlier h tag body r =
     let inside : In r.1 (moments_of earlier) = in-get (moments_of earlier) r.0 r.1 r.2 in

@@ -1,0 +1,3 @@
+pub mod OwnWorlds
+pub mod Agreeing
+pub mod Replays

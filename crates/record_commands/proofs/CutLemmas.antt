@@ -1,5 +1,5 @@
 -- A record is read to its end, or to where it is cut.
-use Rattle.std.proofs.Common.{◌≡◌, ℕ, List, [], Option, Some, None, Result, Ok, Err, refl, sym, ap, subst, ◌∙◌}
+use Rattle.std.proofs.Common.{◌≡◌, inl, inr, ℕ, List, [], Option, Some, None, Result, Ok, Err, refl, sym, ap, subst, ◌∙◌}
 use Rattle.std.specs.Prelude.{◌⊎◌, IfSome, IsSome, MatchResult}
 use Rattle.session_record.specs.Records.{Entries, entry_before, fault_in}
 use Rattle.session_record.specs.Reading.{Reading, Answers, no_entries, reading_at_start, to_come}

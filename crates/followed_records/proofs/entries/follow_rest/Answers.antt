@@ -11,6 +11,7 @@ use Rattle.followed_records.specs.Following.{told_rest}
 use Rattle.followed_records.proofs.ReadingLemmas.{reading_ends}
 use Rattle.followed_records.proofs.FollowingLemmas.{on_start, on_next, on_until, next_ends}
 use Rattle.followed_records.proofs.RoomLemmas.{room_start, room_next, room_fails, room_end}
+use Rattle.followed_records.proofs.CauseLemmas.{of_reading}
 use Rattle.followed_records.proofs.entries.follow_rest.Goals as goal
 
 pub loop-session-init : goal.loop-session-init
@@ -165,3 +166,8 @@ returns-clause-end g c =
     let answer = subst (λ (o : Option (ℕ × Entry)). Answers (Ok o) r rest s left) c.in_default.is c.in_ok-offset.ensures.answer in
     let header = subst (λ (o : Option (ℕ × Entry)). HasHeader (Ok o) s.header) c.in_default.is c.in_ok-offset.ensures.header in
     read_out_since (g.F.Shelf.rest c.args.shelf.now) rest left c.loop-session.invariant.told (read_out_at_end r s rest left answer header)
+
+pub returns-in_err-offset-clause-causes : goal.returns-in_err-offset-clause-causes
+returns-in_err-offset-clause-causes g c =
+    let p = err_from_is_err_and c.from_residual.result c.from_residual.ensures.1 in
+    rw (p.1, p.2) (of_reading c.in_err-offset.field-0.0)

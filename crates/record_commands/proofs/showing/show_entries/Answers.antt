@@ -1,6 +1,8 @@
 use Rattle.std.proofs.Common.{List, ℕ, Option, Some, None, Ok, refl, rules, sym, ap, subst, ◌∙◌}
 use Rattle.std.proofs.lemmas.Result.{err_from_is_err_and}
+use Rattle.hk_base.specs.Outside.{HasRisen}
 use Rattle.session_record.specs.Reading.{Reading}
+use Rattle.session_record.specs.declared.entry.RecordFault.{RecordFault}
 use Rattle.program_edge.specs.Inputs.{IsReadOutAtEnd}
 use Rattle.program_edge.proofs.FaultLemmas.{of_record_run, read_err, same_err, unwritten}
 use Rattle.program_edge.proofs.ReaderLemmas.{read_out_since}
@@ -65,7 +67,7 @@ returns-in_err-line-clause-causes g c =
 pub returns-in_err-line-clause-read_fault : goal.returns-in_err-line-clause-read_fault
 returns-in_err-line-clause-read_fault g c =
     let p = err_from_is_err_and c.from_residual.result c.from_residual.ensures.1 in
-    rw (p.1, p.2) (λ is. c.in_err-line.ensures.failed (read_err c.in_err-line.field-0.0 is))
+    rw (p.1, p.2) (λ is. subst (λ (n : ℕ). HasRisen n (g.F.Shelf.faults c.next_line.new.shelf)) c.loop-line.invariant.faults (c.in_err-line.ensures.failed (read_err c.in_err-line.field-0.0 is)))
 
 pub returns-in_err-line-clause-write_fault : goal.returns-in_err-line-clause-write_fault
 returns-in_err-line-clause-write_fault g c =
@@ -78,4 +80,4 @@ returns-clause-end g c =
     let left = g.F.Shelf.rest c.next_line.new.shelf in
     read_out_since (g.F.Shelf.rest c.args.shelf.now) rest left
     (still_read c.args.tailoring.now (g.F.Shelf.rest c.args.shelf.now) c.loop-line.reader rest (g.K.Sink.taken c.args.sink.now) (g.K.Sink.taken c.loop-line.sink) c.loop-line.invariant.shown)
-    (subst (λ (o : Option (List ℕ)). IsReadOutAtEnd (Ok o) rest left) c.in_default.is c.in_ok-line.ensures.end)
+    (subst (λ (o : Option (List ℕ)). IsReadOutAtEnd {E = RecordFault} (Ok o) rest left) c.in_default.is c.in_ok-line.ensures.end)

@@ -257,9 +257,10 @@ not-any k (e ∷ es) h = go (e == k) refl h (not-any k es)
 stands-set : (t : TailoringParts) (earlier : List ℕ) (id : ℕ) → settable_fault t earlier id ≡ None → (is_set t id ≡ true) × AllByRecursion (λ e. (e == id) ≡ false) earlier
 stands-set t earlier id e =
     let parts = or-none-left (param_fault t earlier id) (sensed_fault t id) e in
-    let inner = or-none-left (repeat_fault earlier id) (fault_if (not (is_some (parameter t id))) (UnknownParam id)) parts.0 in
-    (known (parameter t id) refl (not-fault (not (is_some (parameter t id))) (UnknownParam id) inner.1) parts.1,
-    not-any id earlier (not-fault (list_any (λ e. e == id) earlier) (RepeatedKey id) inner.0))
+    let inner = or-none-left (repeat_fault earlier id) (fault_if (not (is_some (parameter t id))) (UnknownParam id)) parts.0 in (
+      known (parameter t id) refl (not-fault (not (is_some (parameter t id))) (UnknownParam id) inner.1) parts.1,
+      not-any id earlier (not-fault (list_any (λ e. e == id) earlier) (RepeatedKey id) inner.0),
+    )
   where
     known : (o : Option Param) → parameter t id ≡ o → not (is_some (parameter t id)) ≡ false → sensed_fault t id ≡ None → is_set t id ≡ true
     known None q a b = absurd (true_is_not_false (sym (ap (λ o. not (is_some o)) q) ∙ a))

@@ -1,4 +1,4 @@
-use Rattle.record_commands.proofs.WholeLemmas.{trims, refuses, first-given}
+use Rattle.record_commands.proofs.WholeLemmas.{trims, refuses}
 use Rattle.record_commands.proofs.laws.trimmed_octets_are_the_longest_record.Goals as goal
 
 pub returns-clause-trims : goal.returns-clause-trims
@@ -6,6 +6,3 @@ returns-clause-trims c = trims
 
 pub returns-clause-refuses : goal.returns-clause-refuses
 returns-clause-refuses c = refuses
-
-pub returns-clause-given : goal.returns-clause-given
-returns-clause-given c = first-given

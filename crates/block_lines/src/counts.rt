@@ -1,4 +1,4 @@
-//! How often each thing became of a packet that was received.
+//! How many received packets were repeats, conflicts, foreign, skipped, unread or stray.
 ghost use Rattle.std.specs.Prelude.{◌≡◌, ◌++◌, codes};
 ghost use Rattle.body_fields.specs.Outcomes.{Appends};
 ghost use Rattle.session_texts.specs.Texts.{count_line};
@@ -7,7 +7,7 @@ ghost use Rattle.block_lines.specs.Counts.{lines_of};
 use crate::summary::write_number;
 use hk_base::Memory;
 
-/// The numbers of packets that were received and not kept, by what became of them.
+/// The numbers of received packets that weren't kept, by the reason.
 #[derive(Clone, Copy, Debug, PartialEq, Eq, Drop)]
 pub struct Counts {
     pub repeats: u32,

@@ -1,6 +1,6 @@
 //! The lines that are written of a session: the block of a report that was kept, counts, and the numbers of a session.
 //!
-//! Each writer puts its lines last. Where memory is wanting, the octets that were there before are still in front.
+//! Each writer puts its lines last. When memory runs out, the octets that were there before are still in front.
 #![tactic(auto)]
 
 mod counts;

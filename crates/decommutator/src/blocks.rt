@@ -47,7 +47,7 @@ fn put_block(
     put_last(alloc, verdicts, kept.report(), out)
 }
 
-/// Appends the block of a report by what is known.
+/// Appends the block of a report by the history.
 pub(crate) fn put_last(
     alloc: Global,
     verdicts: &Verdicts<'_>,

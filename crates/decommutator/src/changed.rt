@@ -10,7 +10,7 @@ ghost use Rattle.decommutator.specs.Due.{came_of, new_tag};
 use entry_changes::{changed_by_kept, changed_by_sent, sent_touches_none, touched_by_kept};
 use ground_history::{GotKind, History};
 
-/// What an entry brought to what is known.
+/// What an entry added to the history.
 #[derive(Clone, Copy, Drop)]
 pub(crate) enum Came {
     Nothing,
@@ -24,7 +24,7 @@ pub(crate) enum Came {
 pub(crate) struct Changed {
     /// Reports from this tag on may have another verdict than before.
     pub(crate) from: Option<u64>,
-    /// The first request of which something new is known.
+    /// The first request with new evidence.
     pub(crate) touched: Option<u64>,
     /// The tag of the report that was kept.
     pub(crate) new: Option<u64>,
@@ -60,7 +60,7 @@ fn changed_from(history: &History, came: Came) -> Option<u64>
     }
 }
 
-/// The first request of which something new is known.
+/// The first request with new evidence.
 fn touched_by(history: &History, came: Came) -> Option<u64>
     ensures { (g : Ground) (e : Entry) → IsGrounded g → came ≡ came_of g e → history.now ≡ ground_after g e (Ok tt) → AreUnsureSame result g history.now }
 {

@@ -1,4 +1,4 @@
-//! What stands for the entries of a session.
+//! The state of a session after its entries.
 ghost use Rattle.std.specs.Prelude.{◌≡◌, ◌≤◌, ◌<◌, ◌^◌, [], Some, IfOk, IsSome, length};
 ghost use Rattle.ground_history.specs.Ground.{IsAnswer, IsGrounded};
 ghost use Rattle.session_record.specs.Records.{held_octets};
@@ -30,7 +30,7 @@ use session_texts::{Tally, texts_are_true};
 use std::alloc::Global;
 use std::marker::Model;
 
-/// What stands for the entries of a session: what the ground knows, and what became of the packets that it received.
+/// The state of a session after its entries: the history, and what became of the packets that were received.
 #[derive(Drop)]
 pub struct Decommutator {
     alloc: Global,
@@ -59,7 +59,7 @@ impl Model for Decommutator {
 }
 
 impl Decommutator {
-    /// What stands for no entries: whether the board's state at the start is known, and whether counts of requests are used again.
+    /// The state of a session without entries: whether the board's state at the start is known, and whether counts of requests are used again.
     pub fn new(alloc: Global, tailoring: Tailoring, known: bool, long: bool) -> Decommutator
         ensures standing { result.standing ≡ new_standing tailoring known long }
         ensures waiting { result.waiting ≡ Some [] }
@@ -91,7 +91,7 @@ impl Decommutator {
     }
 
     /// One more entry, after which the blocks are written that can be written now and weren't before, in the order of tags. After a
-    /// refusal of the entry nothing was written; where writing ends in a fault, a first part of the text was. Nothing stands after either.
+    /// refusal of the entry nothing was written; if writing fails, a prefix of the text was. Either way the session is consumed.
     pub fn follow<K: Sink>(self, entry: &Entry, sink: &mut K) -> Result<Decommutator, FollowFault>
         requires few { self.standing.entries < 4294967295 }
         requires size { length (held_octets entry.now) ≤ 2 ^ 31 }
@@ -131,8 +131,8 @@ impl Decommutator {
         })
     }
 
-    /// Writes what is left after the last entry: the other blocks in the order of tags, and then the counts. Where writing ends in a
-    /// fault, a first part of that was written.
+    /// Writes what is left after the last entry: the other blocks in the order of tags, and then the counts. If writing fails, a
+    /// prefix of that was written.
     pub fn close<K: Sink>(self, sink: &mut K) -> Result<(), WriteFault>
         requires followed { IsSome self.waiting }
         ensures written { Writes (closing_text self) result (K.taken sink.old) (K.taken sink.new) }
@@ -154,7 +154,7 @@ impl Decommutator {
         self.entries
     }
 
-    /// What is known after the entries.
+    /// The history after the entries.
     pub fn history(&self) -> &History
         ensures { result.now ≡ ground_of self.now.standing }
     {

@@ -18,7 +18,7 @@ use st03_grammar::Report03;
 use st04_grammar::Report04;
 use std::alloc::Global;
 
-/// Appends the block of the report with this tag, if it can be written: whether the report waits.
+/// Appends the block of the report with this tag if it can be written. Returns true if the report must still wait.
 pub(crate) fn put_due(
     alloc: Global,
     live: &mut LiveVerdicts,
@@ -38,7 +38,7 @@ pub(crate) fn put_due(
     }
 }
 
-/// Appends the block of a report, if it can be written: whether it can.
+/// Appends the block of a report if it can be written. Returns whether it can.
 fn put_ready(
     alloc: Global,
     live: &mut LiveVerdicts,
@@ -69,7 +69,7 @@ fn put_ready(
     }
 }
 
-/// Appends the block of a parameter report, if it is decided: whether it is.
+/// Appends the block of a parameter report if it is decided. Returns whether it is.
 fn put_decided(
     alloc: Global,
     live: &mut LiveVerdicts,

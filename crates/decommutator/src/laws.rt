@@ -11,8 +11,7 @@ ghost use Rattle.decommutator.specs.Standing.{Decommutation, new_standing, with_
 ghost use Rattle.decommutator.specs.Following.{IsFollowing, after_followed, followed_text, closing_text};
 ghost use Rattle.decommutator.specs.Entries.{standing_of};
 
-/// What stands for no entries is what there is at the start, each entry leads on to what stands for the entries with it, and
-/// text and numbers are those of the entries.
+/// The state of a session is a fold over its entries, from the state of none; text and numbers are functions of that state.
 pub fn entries_stand()
     ensures first { (t : TailoringParts) (h : Header) → standing_of t h [] ≡ new_standing t h.known h.long }
     ensures next { (t : TailoringParts) (h : Header) (entries : List Entry) (e : Entry)
@@ -21,8 +20,7 @@ pub fn entries_stand()
     ensures tally { (t : TailoringParts) (h : Header) (entries : List Entry) → standing_tally (standing_of t h entries) ≡ tally (protocol t) h entries }
 {}
 
-/// What stands for entries that were each followed: at the start it is what stands for none, each entry leads on, and what is
-/// written is what is due of the entries.
+/// The same of entries that were each followed: the state is a fold over them, and what is written is what is due of the entries.
 pub fn entries_are_followed()
     ensures first { (t : TailoringParts) (h : Header) → IsFollowing t h [] (record { standing = new_standing t h.known h.long; waiting = Some [] }) }
     ensures next { (t : TailoringParts) (h : Header) (entries : List Entry) (d : Decommutation) (e : Entry) → IsFollowing t h entries d

@@ -13,7 +13,7 @@ use hk_base::{Memory, Sink};
 use session_record::WriteFault;
 use std::alloc::Global;
 
-/// Writes the blocks of the reports with these tags by what is known, and then the counts.
+/// Writes the blocks of the reports with these tags by the history, and then the counts.
 pub(crate) fn write_rest<K: Sink>(
     alloc: Global,
     history: &History,

@@ -1,4 +1,4 @@
-//! What an entry makes of what is known and of the counts.
+//! What an entry makes of the history and of the counts.
 ghost use Rattle.std.specs.Prelude.{◌≡◌, ◌≤◌, ◌<◌, ◌^◌, IfOk, length};
 ghost use Rattle.ground_history.specs.Ground.{IsAnswer};
 ghost use Rattle.session_record.specs.Records.{held_octets};

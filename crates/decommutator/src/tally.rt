@@ -16,7 +16,7 @@ use session_texts::Tally;
 use st03_grammar::Report03;
 use std::alloc::Global;
 
-/// The numbers of what is known, and of the verdicts on the kept parameter reports.
+/// The numbers of the history, and of the verdicts on the kept parameter reports.
 pub(crate) fn tally_of(alloc: Global, history: &History, counts: &Counts) -> Result<Tally, Memory>
     requires { length history.now.history.requests + length history.now.history.kept < 4294967296 }
     ensures { IfOk result (λ tally. tally ≡ tally_by history.now counts.now) }
@@ -25,7 +25,7 @@ pub(crate) fn tally_of(alloc: Global, history: &History, counts: &Counts) -> Res
     tally_verdicts(alloc, &verdicts, counts)
 }
 
-/// The numbers of what is known, and of the verdicts on the kept parameter reports.
+/// The numbers of the history, and of the verdicts on the kept parameter reports.
 fn tally_verdicts(alloc: Global, verdicts: &Verdicts<'_>, counts: &Counts) -> Result<Tally, Memory>
     requires { length verdicts.now.history.requests + length verdicts.now.history.kept < 4294967296 }
     ensures { IfOk result (λ tally. tally ≡ tally_by verdicts.now counts.now) }

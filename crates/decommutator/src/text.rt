@@ -12,7 +12,7 @@ use hk_base::Sink;
 use session_record::WriteFault;
 use std::alloc::Global;
 
-/// Writes the whole text of what is known and these counts.
+/// Writes the whole text of a history and these counts.
 pub(crate) fn write_text<K: Sink>(
     alloc: Global,
     history: &History,

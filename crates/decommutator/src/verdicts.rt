@@ -13,7 +13,7 @@ use std::marker::{Brand, Model};
 use std::sync::ledger::{Blank, Ledger};
 use verdict_tables::{Steps, Tables};
 
-/// Verdicts by what is known.
+/// Verdicts by the history.
 #[derive(Drop)]
 pub(crate) struct Verdicts<'a> {
     history: &'a History,
@@ -56,7 +56,7 @@ impl<'a> Verdicts<'a> {
         }
     }
 
-    /// What is known.
+    /// The history.
     pub(crate) fn history(&self) -> &History
         ensures history { result.now ≡ self.now }
         ensures grounded { IsGrounded self.now }

@@ -112,7 +112,7 @@ fn has_place_after(number: u64, verification: &Verification) -> bool
     }
 }
 
-/// The last request before another that is known to have ended below a tag, by halves.
+/// The last request before another that is known to have ended below a tag, by binary search.
 fn last_ended(history: &History, number: u64, tag: u64) -> Option<u64>
     requires { number < length history.now.history.requests }
     ensures { IfSome result (λ last. (last < number) × (is_under (high history.now.history last) tag ≡ true)) }

@@ -1,4 +1,4 @@
-//! What an entry leaves as it was, of all that verdicts rest on.
+//! Which verdicts a new entry can change.
 #![tactic(auto)]
 
 mod changes;

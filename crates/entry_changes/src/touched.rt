@@ -1,4 +1,4 @@
-//! Of which requests an entry tells something new.
+//! The first request that an entry says something new about.
 ghost use Rattle.std.specs.Prelude.{◌≡◌, ℕ, List, None};
 ghost use Rattle.pus_messages.specs.Messages.{protocol};
 ghost use Rattle.ground_history.specs.Histories.{got_kind, history_with_got, with_sent};
@@ -11,7 +11,7 @@ use ground_history::{History, KeptPacket};
 use pus_messages::ReportBody;
 use st01_reports::Verification;
 
-/// The first request of which something new is known since the packet with this tag was kept; None where there is none.
+/// The first request with new evidence since the packet with this tag was kept; None where there is none.
 pub fn touched_by_kept(history: &History, tag: u64) -> Option<u64>
     ensures { (g : Ground) (packet : List ℕ) → IsGrounded g → got_kind (protocol g.tailoring) g.history packet ≡ became.Kept tag
         → history.now ≡ with_history g (history_with_got g.history packet ((protocol g.tailoring).reception packet))
@@ -23,7 +23,7 @@ pub fn touched_by_kept(history: &History, tag: u64) -> Option<u64>
     }
 }
 
-/// The first request of which a packet that was kept tells something new.
+/// The first request that a kept packet says something new about.
 fn touched_by_packet(kept: &KeptPacket) -> Option<u64>
     ensures { (g : Ground) → AreUnsureSame result g (with_history g (with_packet g.history kept.now)) }
 {

@@ -65,7 +65,7 @@ fn follow_from<F: Shelf, K: Sink>(
     close(session, sink)
 }
 
-/// What stands for no entries under the header that was read.
+/// The state of a session without entries, under the header that was read.
 fn new_session(
     alloc: Global,
     tailoring: &Tailoring,

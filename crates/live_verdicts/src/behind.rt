@@ -12,14 +12,14 @@ use ground_history::History;
 use hk_base::Memory;
 use std::alloc::Global;
 
-/// The place of a mark, and the numbers of the requests by which verdicts go on from it.
+/// The index of a mark, and the numbers of the requests by which verdicts go on from it.
 #[derive(Clone, Copy, Debug, Drop)]
 struct Behind {
     place: usize,
     numbers: Numbers,
 }
 
-/// Holds a mark that comes to the reports, and gives its place; None where there is none to go on from.
+/// Adds a mark that comes to the reports, and gives its index; None where there is none to start from.
 pub(crate) fn approach(
     alloc: Global,
     held: &mut Vec<StructureMark>,

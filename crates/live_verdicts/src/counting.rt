@@ -5,7 +5,7 @@ ghost use Rattle.live_verdicts.specs.Marks.{AreListedBelow};
 use crate::firm::{have_begun, is_at_most};
 use ground_history::{History, bounds_rise};
 
-/// The number below which requests may have been executed below a tag: all, or by halves.
+/// The number below which requests may have been executed below a tag, by binary search.
 pub(crate) fn listed_below(history: &History, tag: u64) -> u64
     ensures { AreListedBelow history.now.history tag result }
 {
@@ -29,7 +29,7 @@ pub(crate) fn listed_below(history: &History, tag: u64) -> u64
     from
 }
 
-/// The number of the first request, from one on and before another, that isn't known to have ended at a tag: the other, or by halves.
+/// The number of the first request in a range that isn't known to have ended at a tag, by binary search; the end of the range where there is none.
 pub(crate) fn ended_before(history: &History, from: u64, to: u64, tag: u64) -> u64
     requires order { from ≤ to }
     requires within { to ≤ length history.now.history.requests }

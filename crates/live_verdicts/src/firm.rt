@@ -1,4 +1,4 @@
-//! Whether verdicts on reports with a tag go on from a mark.
+//! Whether verdicts on reports with a tag can start from a mark.
 ghost use Rattle.std.specs.Prelude.{◌≡◌, ◌<◌, ◌≤◌, true, length};
 ghost use Rattle.definition_intervals.specs.Openings as openings;
 ghost use Rattle.entry_changes.specs.Changes.{told_below};
@@ -15,7 +15,7 @@ pub(crate) fn comes_to(history: &History, mark: &Mark, listed: u64, tag: u64) ->
     mark.listed <= listed && holds_for(history, mark, listed, tag)
 }
 
-/// Whether verdicts on reports with a tag go on from a mark with the requests below a number.
+/// Whether verdicts on reports with a tag can start from a mark, with the requests below a number.
 pub(crate) fn goes_on(history: &History, mark: &Mark, listed: u64, tag: u64) -> bool
     ensures { result ≡ true → GoesOn history.now.history mark.now listed tag }
 {
@@ -26,7 +26,7 @@ pub(crate) fn goes_on(history: &History, mark: &Mark, listed: u64, tag: u64) -> 
         && are_late(history, listed, mark.opened)
 }
 
-/// Whether a mark holds for reports with a tag, of the requests below a number.
+/// Whether a mark is valid for reports with a tag, over the requests below a number.
 fn holds_for(history: &History, mark: &Mark, listed: u64, tag: u64) -> bool
     ensures { result ≡ true → HoldsFor history.now.history mark.now listed tag }
 {

@@ -6,7 +6,7 @@ ghost use Rattle.live_verdicts.specs.Marks.{IsKept, StandsFor, narrowed_to};
 
 use crate::mark::{Mark, StructureMark};
 
-/// Gives up the marks that rest on tags from which on something may have changed, or on requests that were touched, and narrows the others to the
+/// Drops the marks that depend on tags from which on something may have changed, or on requests with new evidence, and narrows the others to the
 /// requests before those.
 pub(crate) fn forget(held: &mut Vec<StructureMark>, from: Option<u64>, touched: Option<u64>)
     ensures { (g later : Ground) → StandsFor held.old.items g → AreSameBelow from g later → AreUnsureSame touched g later

@@ -1,4 +1,4 @@
-//! Marks that hold of more requests.
+//! Extends a mark over more requests.
 ghost use Rattle.std.specs.Prelude.{◌≡◌, ◌≤◌, ◌<◌, true, List, IfOk, All, length};
 ghost use Rattle.definition_intervals.specs.Findings.{IsFormedCandidate};
 ghost use Rattle.definition_intervals.specs.Founds.{AreSameFound, IsFormedFound, found_after, first_after};
@@ -15,7 +15,7 @@ use hk_base::{Items, Key, Memory, Structure, Tailoring};
 use opening_sweeps::first_after;
 use std::alloc::Global;
 
-/// The number up to which requests leave a mark as it is, from where it holds on and before another number.
+/// The number up to which requests leave a mark unchanged, from its end on and before another number.
 pub(crate) fn calm_until(
     alloc: Global,
     history: &History,
@@ -40,7 +40,7 @@ pub(crate) fn calm_until(
     Ok(end)
 }
 
-/// The mark that holds with the request where a mark ends.
+/// The mark extended by the request at its end.
 pub(crate) fn grown(alloc: Global, history: &History, key: Key, mark: &Mark) -> Result<Mark, Memory>
     requires within { mark.now.calm < length history.now.history.requests }
     requires formed { IsFormedMark history.now.tailoring mark.now }

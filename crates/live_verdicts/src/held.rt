@@ -1,4 +1,4 @@
-//! The marks that are held.
+//! The marks in the cache.
 ghost use Rattle.std.specs.Prelude.{◌≡◌, ◌<◌, true, IfOk, IfSome, length};
 ghost use Rattle.hk_base.specs.Parameters.{key_eq};
 ghost use Rattle.ground_history.specs.Ground.{Ground};
@@ -10,10 +10,10 @@ use crate::mark::{Mark, StructureMark};
 use ground_history::History;
 use hk_base::{Key, Memory};
 
-/// So many marks are held at most.
+/// The most marks in the cache.
 const MOST_MARKS: usize = 512;
 
-/// So many of one structure.
+/// The most marks of one structure.
 const MOST_OF_ONE: usize = 64;
 
 /// What a verdict is asked on: reports of a structure with a tag.
@@ -27,7 +27,7 @@ pub(crate) struct Asked {
     pub past: u64,
 }
 
-/// The place of the last mark that comes to the reports.
+/// The index of the last mark that comes to the reports.
 pub(crate) fn coming_place(held: &[StructureMark], history: &History, asked: Asked) -> Option<usize>
     ensures { IfSome result (IsComingAt history.now.history asked held.now) }
 {
@@ -49,7 +49,7 @@ pub(crate) fn is_coming(history: &History, mark: &Mark, asked: Asked) -> bool
     mark.past == asked.past && comes_to(history, mark, asked.listed, asked.tag)
 }
 
-/// Holds one more mark, and gives its place. Where there are too many, older ones are given up.
+/// Adds a mark, and gives its index. Where there are too many, older ones are dropped.
 pub(crate) fn hold(held: &mut Vec<StructureMark>, key: Key, mark: Mark) -> Result<usize, Memory>
     ensures stands { (g : Ground) → StandsFor held.old.items g → IsMark g key mark → StandsFor held.new.items g }
     ensures place { IfOk result (IsPlaceOf (λ (m : declared.Mark). m ≡ mark) key held.new.items) }
@@ -61,7 +61,7 @@ pub(crate) fn hold(held: &mut Vec<StructureMark>, key: Key, mark: Mark) -> Resul
     Ok(place)
 }
 
-/// Gives up the older half of the marks, where there are as many as are held at most.
+/// Drops the older half of the marks, where the cache is full.
 fn give_up_older(held: &mut Vec<StructureMark>) -> Result<(), Memory>
     ensures { (g : Ground) → StandsFor held.old.items g → StandsFor held.new.items g }
 {
@@ -73,7 +73,7 @@ fn give_up_older(held: &mut Vec<StructureMark>) -> Result<(), Memory>
     Ok(())
 }
 
-/// Gives up the first mark of a structure, where there are as many of it as are held at most.
+/// Drops the first mark of a structure, where it has the most marks.
 fn give_up_first_of(held: &mut Vec<StructureMark>, key: Key)
     ensures { (g : Ground) → StandsFor held.old.items g → StandsFor held.new.items g }
 {
@@ -82,7 +82,7 @@ fn give_up_first_of(held: &mut Vec<StructureMark>, key: Key)
     }
 }
 
-/// The place of the first mark of a structure, where there are as many of it as are held at most.
+/// The index of the first mark of a structure, where it has the most marks.
 fn first_of_many(held: &[StructureMark], key: Key) -> Option<usize>
     ensures { IfSome result (λ place. place < length held.now) }
 {

@@ -1,4 +1,4 @@
-//! Whether requests leave a mark as it is.
+//! Whether requests leave a mark unchanged.
 ghost use Rattle.std.specs.Prelude.{◌≡◌, ◌<◌, ◌+◌, true, IfOk, All, length};
 ghost use Rattle.st03_grammar.specs.Instructions.{change_of};
 ghost use Rattle.definition_intervals.specs.Findings.{IsFormedCandidate};
@@ -15,7 +15,7 @@ use opening_sweeps::first_after;
 use st03_grammar::Change;
 use std::alloc::Global;
 
-/// Whether the request with this number leaves a mark as it is. Those that leave its finds are told to later calls.
+/// Whether the request with this number leaves a mark unchanged. Those that leave its finds are told to later calls.
 pub(crate) fn passes<'a>(
     alloc: Global,
     history: &'a History,
@@ -39,7 +39,7 @@ pub(crate) fn passes<'a>(
     }
 }
 
-/// Whether a request leaves a mark as it is.
+/// Whether a request leaves a mark unchanged.
 fn leaves<'a>(
     alloc: Global,
     tailoring: &Tailoring,

@@ -1,4 +1,4 @@
-//! Verdicts on parameter reports while entries come.
+//! Verdicts on parameter reports while entries come, from a cache of what was found for other reports: the marks.
 #![tactic(auto)]
 
 mod behind;

@@ -23,7 +23,7 @@ use hk_base::{Key, Memory};
 use std::alloc::Global;
 use std::marker::Model;
 
-/// What verdicts go on from while entries come: what was found of structures at some tags.
+/// A cache for verdicts while entries come: what was found of structures at some tags.
 #[derive(Drop)]
 pub struct LiveVerdicts {
     alloc: Global,
@@ -40,7 +40,7 @@ impl Model for LiveVerdicts {
 }
 
 impl LiveVerdicts {
-    /// What stands for no entries.
+    /// An empty cache, valid for a session without entries.
     pub fn new(alloc: Global) -> LiveVerdicts
         ensures { (t : TailoringParts) (known long : Bool) → StandsFor result (record { tailoring = t; history = new_history known long }) }
     {
@@ -50,14 +50,14 @@ impl LiveVerdicts {
         }
     }
 
-    /// Forgets what rests on tags from which on something may have changed, and on requests of which something new is known.
+    /// Forgets what depends on tags from which on something may have changed, or on requests with new evidence. The rest stays valid.
     pub fn forget_from(&mut self, from: Option<u64>, touched: Option<u64>)
         ensures { (g later : Ground) → StandsFor self.old g → AreSameBelow from g later → AreUnsureSame touched g later → StandsFor self.new later }
     {
         forget(&mut self.marks, from, touched);
     }
 
-    /// The verdict on a report of a structure with this tag and payload. It goes on from what was found for other reports.
+    /// The verdict on a report of a structure with this tag and payload. It starts from what was found for other reports.
     pub fn verdict(
         &mut self,
         history: &History,
@@ -99,7 +99,7 @@ fn asked_on(history: &History, key: Key, tag: u64) -> Asked
     }
 }
 
-/// The place of a mark whose basis is that of verdicts on the reports; None where there is none to go on from.
+/// The index of a mark whose basis is that of verdicts on the reports; None where there is none to start from.
 fn place_for(
     alloc: Global,
     held: &mut Vec<StructureMark>,
@@ -124,7 +124,7 @@ fn place_for(
     Ok(Some(place))
 }
 
-/// The place of a mark with all states that were told before the reports, from one that comes to them and reaches the requests.
+/// The index of a mark with all states that were told before the reports, from one that comes to them and reaches the requests.
 fn with_told_states(
     alloc: Global,
     held: &mut Vec<StructureMark>,

@@ -1,7 +1,7 @@
 use definition_intervals::Basis;
 use hk_base::{Items, Key, Structure};
 
-/// What was found of openings of a structure, of the states that open below a tag.
+/// A cached result: what was found of the openings of a structure below a tag.
 #[derive(Debug, Drop)]
 pub(crate) struct Mark {
     pub tag: u64,
@@ -9,9 +9,9 @@ pub(crate) struct Mark {
     pub opened: u64,
     /// So many requests are known to have ended at the tag.
     pub past: u64,
-    /// It holds of the requests below this number ..
+    /// Valid for the requests below this number,
     pub listed: u64,
-    /// .. and of those below each later one up to this, as the requests between leave it as it is.
+    /// and for any bound up to this one: the requests between change nothing.
     pub calm: u64,
     /// What was found of the openings, each once.
     pub finds: Vec<Option<Items<Option<Structure>>>>,
@@ -19,7 +19,7 @@ pub(crate) struct Mark {
     pub first: Option<u64>,
     /// The first open change of the requests that haven't ended, which is that of an opening behind the others.
     pub open_change: Option<u64>,
-    /// Some finds of which it is known what the requests that haven't ended make: it is among those that were found.
+    /// Starting points whose outcome under the pending requests is already among those that were found.
     pub origins: Vec<Option<Items<Option<Structure>>>>,
     pub basis: Basis,
 }

@@ -9,7 +9,7 @@ use ground_history::History;
 use hk_base::Memory;
 use std::alloc::Global;
 
-/// The place of a mark that comes to the reports and reaches the requests that may have been executed, from one that comes to them.
+/// The index of a mark that comes to the reports and reaches the requests that may have been executed, from one that comes to them.
 pub(crate) fn reach(
     alloc: Global,
     held: &mut Vec<StructureMark>,
@@ -30,7 +30,7 @@ pub(crate) fn reach(
     Ok(place)
 }
 
-/// One step: past all requests that leave the mark as it is, or past one that doesn't.
+/// One step: past all requests that leave the mark unchanged, or past one that doesn't.
 fn step(
     alloc: Global,
     held: &mut Vec<StructureMark>,

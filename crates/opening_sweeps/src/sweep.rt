@@ -35,7 +35,7 @@ pub(crate) struct Sweep {
     pub groups: Vec<Group>,
     /// How many of the states that were told have a lower tag.
     pub opened: usize,
-    /// How many requests have bounds of which the upper one isn't above the tag.
+    /// How many requests have ended by this tag.
     pub settled: usize,
     /// How many requests have a lower bound below the tag.
     pub listed: usize,

@@ -1,4 +1,4 @@
-//! The ranges of all structures, by what is known.
+//! The ranges of all structures, by a history.
 ghost use Rattle.std.specs.Prelude.{◌≡◌, ◌≢◌, ℕ, [], ◌∷◌, IfOk};
 ghost use Rattle.std.specs.List.Sorted.{IsStrictlyIncreasing};
 ghost use Rattle.hk_base.specs.declared.types.Key.{Key};

@@ -1,4 +1,4 @@
-//! The places of all structures, found in one pass over what is known.
+//! The places of all structures, found in one pass over a history.
 ghost use Rattle.std.specs.Prelude.{◌≡◌, ◌+◌, ◌<◌, ◌∷◌, IfOk, OnOk, Some, length, slice_get, flat_map, option_to_list};
 ghost use Rattle.std.specs.List.{enumerate_from};
 ghost use Rattle.hk_base.specs.declared.types.Key.{Key};

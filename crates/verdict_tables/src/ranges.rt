@@ -70,7 +70,7 @@ impl Ranges {
         basis
     }
 
-    /// The number of the last range that begins at this tag or before it, by halves.
+    /// The number of the last range that begins at this tag or before it, by binary search.
     fn number_at<L: Ledger>(&self, tag: u64, steps: &mut Steps<L>) -> u32
         ensures number { IsSearched self.now tag result }
         ensures more { steps.old ≤ steps.new }

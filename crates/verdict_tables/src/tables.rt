@@ -24,7 +24,7 @@ use std::sync::ledger::Ledger;
 #[derive(Drop)]
 pub struct Tables {
     alloc: Global,
-    /// None before they stand for a history.
+    /// None before they are valid for a history.
     tailoring: Option<Tailoring>,
     known: bool,
     structures: Structures,
@@ -54,7 +54,7 @@ impl Tables {
         }
     }
 
-    /// Makes the tables stand for what is known; without memory for it they are as before.
+    /// Makes the tables valid for a history; when memory runs out they are as before.
     pub fn mend(&mut self, history: &History) -> Result<(), Memory>
         ensures stands { OnOk result (StandsFor self.new history.now) }
         ensures same { OnErr result (self.new ≡ self.old) }

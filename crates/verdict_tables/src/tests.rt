@@ -19,7 +19,7 @@ enum Told {
     Impossible,
 }
 
-/// What is known before the entries of a record.
+/// The history before the entries of a record.
 #[derive(Clone, Copy, Debug, PartialEq, Eq, Drop)]
 enum Start {
     Known,

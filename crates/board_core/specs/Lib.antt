@@ -1,0 +1,10 @@
+pub mod Counts
+pub mod Logs
+pub mod Boards
+pub mod Causes
+pub mod Effects
+pub mod Planned
+pub mod Execution
+pub mod Worked
+pub mod Reporting
+pub mod Closing

@@ -175,7 +175,7 @@ def packets(octets):
         end = packet_end(octets, at)
         left = len(octets) - at
         if end is None:
-            raise NotPacket(at, f'{left} octets are no primary header')
+            raise NotPacket(at, f'{left} of the 6 octets of a primary header')
         if end > len(octets):
             raise NotPacket(at, f'{end - at} octets by its data length, and {left} are there')
         yield octets[at:end]

@@ -51,11 +51,14 @@ def entries(name):
     return found
 
 
-def tcp_capture(segments, source=40000, port=10025):
-    """A capture of raw IP with the segments (sequence number, whether it begins the connection, octets) of one direction."""
-    capture = struct.pack('>IHHiIII', 0xa1b2c3d4, 2, 4, 0, 0, 65535, 101)
-    for number, (sequence, begins, octets) in enumerate(segments):
-        tcp = struct.pack('>HHIIBBHHH', source, port, sequence % (1 << 32), 0, 0x50, 2 if begins else 0x18, 1000, 0, 0) + octets
-        packet = struct.pack('>BBHHHBBH4B4B', 0x45, 0, 20 + len(tcp), number, 0, 64, 6, 0, 10, 0, 0, 1, 10, 0, 0, 2) + tcp
-        capture += struct.pack('>IIII', number, 0, len(packet), len(packet)) + packet
+def tcp_capture(*connections, port=10025):
+    """A capture of raw IP: for each connection, from a port of its own, the segments (sequence number, whether it begins the connection,
+    octets) of one direction."""
+    capture, number = struct.pack('>IHHiIII', 0xa1b2c3d4, 2, 4, 0, 0, 65535, 101), 0
+    for source, segments in enumerate(connections, 40_000):
+        for sequence, begins, octets in segments:
+            tcp = struct.pack('>HHIIBBHHH', source, port, sequence % (1 << 32), 0, 0x50, 2 if begins else 0x18, 1000, 0, 0) + octets
+            packet = struct.pack('>BBHHHBBH4B4B', 0x45, 0, 20 + len(tcp), number, 0, 64, 6, 0, 10, 0, 0, 1, 10, 0, 0, 2) + tcp
+            capture += struct.pack('>IIII', number, 0, len(packet), len(packet)) + packet
+            number += 1
     return capture

@@ -329,29 +329,34 @@ class FromCaptures(unittest.TestCase):
         def cut(*places):
             return [(first + 1 + begin, False, stream[begin:end]) for begin, end in places]
 
-        for segments in (
+        orders = [
             cut((0, 50)),
             cut((0, 3), (3, 12), (12, 50)),
             cut((0, 10), (30, 40), (20, 30), (10, 20), (40, 50)),
             cut((0, 10), (0, 10), (10, 30), (15, 25), (25, 50)),
             cut((30, 50), (5, 35), (0, 5), (0, 50)),
-        ):
-            made = self.of_capture(tcp_capture([(first, True, b'')] + segments))
-            self.assertEqual(made, (0, wanted, ''))
-        # a capture that begins within a connection
-        self.assertEqual(self.of_capture(tcp_capture(cut((20, 50)))), (0, HEADER + wanted[8 + 30:], ''))
+        ]
+        connections = [[(first, True, b'')] + segments for segments in orders]
+        # the last one is captured from its middle on
+        made = self.of_capture(tcp_capture(*connections, cut((20, 50))))
+        self.assertEqual(made, (0, HEADER + wanted[8:] * 5 + wanted[8 + 30:], ''))
 
     def test_tcp_with_faults(self):
         packet = struct.pack('>HHH', 0x1864, 0xc000, 3) + b'abcd'
-        for segments, told, kept in (
-            ([(9, True, b''), (10, False, packet), (30, False, packet)], 'octets are missing in the capture after 0 of a packet', 1),
-            ([(9, True, b''), (10, False, packet + packet[:7])], 'it ends after 7 octets of a packet', 1),
-            ([(10, False, packet), (20, False, b'\xff'), (21, False, packet)], 'frame 2, octet 0: the version is 7', 1),
-        ):
-            status, _, said = self.of_capture(tcp_capture(segments))
-            self.assertEqual((status, told in said), (3, True), said)
-            status, record, said = self.of_capture(tcp_capture(segments), '--leave-out')
-            self.assertEqual((status, record), (0, HEADER + entry('S', packet) * kept), said)
+        connections = [
+            [(9, True, b''), (10, False, packet), (30, False, packet)],
+            [(9, True, b''), (10, False, packet + packet[:7])],
+            [(10, False, packet), (20, False, b'\xff'), (21, False, packet)],
+        ]
+        told = ('octets are missing in the capture after 0 of a packet', 'it ends after 7 octets of a packet',
+                'frame 7, octet 0: the version is 7')
+        status, record, said = self.of_capture(tcp_capture(*connections), '--leave-out')
+        self.assertEqual((status, record, said.count('left out')), (0, HEADER + entry('S', packet) * 3, 3), said)
+        for text in told:
+            self.assertIn(text, said)
+        for connection, text in zip(connections, told):
+            status, _, said = self.of_capture(tcp_capture(connection))
+            self.assertEqual((status, text.replace('frame 7', 'frame 2') in said), (3, True), said)
 
     def of_capture(self, octets, *words):
         with tempfile.NamedTemporaryFile(suffix='.pcap') as file:

@@ -8,7 +8,7 @@ import subprocess
 import tempfile
 import unittest
 
-from support import EXAMPLES, TOP, needs, run
+from support import EXAMPLES, PROGRAM, TOP, needs, needs_program, run
 
 
 def out(*words, **more):
@@ -76,7 +76,19 @@ class Package(unittest.TestCase):
 
     @needs('lintian')
     def test_lintian(self):
-        done = subprocess.run(['lintian', '--allow-root', '--fail-on', 'error,warning', self.package], capture_output=True, text=True, check=False)
+        self.no_errors(self.package)
+
+    @needs('lintian')
+    @needs_program
+    def test_lintian_with_the_program(self):
+        (self.folder / 'real').mkdir()
+        shutil.copy(PROGRAM, self.folder / 'real/hk_replay')
+        status, path, said = run('package', '-o', self.folder / 'real', '--programs', self.folder / 'real')
+        self.assertEqual(status, 0, said)
+        self.no_errors(path.decode().strip())
+
+    def no_errors(self, package):
+        done = subprocess.run(['lintian', '--allow-root', '--fail-on', 'error,warning', package], capture_output=True, text=True, check=False)
         self.assertEqual((done.returncode, re.findall('(?m)^[EW]: .*', done.stdout)), (0, []))
 
     @needs('man')

@@ -79,30 +79,32 @@ class Reader:
         return b''.join(parts)
 
     def __iter__(self):
+        # `before` octets of the record were let go; `held` has the next ones, and the next entry begins at `at` of it
         held, at, before = self.held, 8, 0
-        unpack, kinds, size = ENTRY.unpack_from, KINDS, len(self.held)
+        unpack, kind_of, size = ENTRY.unpack_from, KINDS.get, len(self.held)
         for _ in range(MOST_ENTRIES):
             if size - at < 5:
                 before, held, at = before + at, self._filled(held[at:], 5), 0
                 size = len(held)
                 if not size:
                     return
-                if held[0] not in kinds:
-                    raise Fault('BadKind', before, held[0])
                 if size < 5:
-                    raise Fault('Cut', before)
+                    raise Fault('Cut', before) if held[0] in KINDS else Fault('BadKind', before, held[0])
             octet, length = unpack(held, at)
-            end = at + 5 + length
-            if octet not in kinds:
+            kind = kind_of(octet)
+            if kind is None:
                 raise Fault('BadKind', before + at, octet)
-            if before + end > MOST_OCTETS:
-                raise Fault('TooLong', before + at)
+            end = at + 5 + length
             if end > size:
+                if before + end > MOST_OCTETS:
+                    raise Fault('TooLong', before + at)
                 before, end, held, at = before + at, end - at, self._filled(held[at:], end - at), 0
                 size = len(held)
                 if end > size:
                     raise Fault('Cut', before)
-            yield before + at, kinds[octet], held[at + 5:end]
+            elif before + end > MOST_OCTETS:
+                raise Fault('TooLong', before + at)
+            yield before + at, kind, held[at + 5:end]
             at = end
         if at < size or self._filled(b'', 1):
             raise Fault('TooManyEntries', before + at)

@@ -358,6 +358,19 @@ class FromCaptures(unittest.TestCase):
             status, _, said = self.of_capture(tcp_capture(connection))
             self.assertEqual((status, text.replace('frame 7', 'frame 2') in said), (3, True), said)
 
+    @needs('editcap')
+    def test_frames_that_are_cut_off(self):
+        """`editcap -s` keeps the first octets of each frame: a datagram begins after 42, a segment of this capture after 66."""
+        for name, kept, told in (
+            ('examples/asked_again.pcap', 42 + 15, 'frame 2: 15 of 26 octets were captured'),
+            ('examples/asked_again.pcap', 42, 'frame 1: 0 of 15 octets were captured'),
+            ('tests/tools/asked_again_tcp.pcap', 66 + 4, 'frame 6: 4 of 11 octets were captured'),
+            ('tests/tools/asked_again_tcp.pcap', 36, "frame 1: its header isn't all there"),
+        ):
+            cut = subprocess.run(['editcap', '-s', str(kept), TOP / name, '-'], stdout=subprocess.PIPE, check=True).stdout
+            made = run('make_record', 'pcap', '-', '--by-type', '--known', given=cut)
+            self.assertEqual(made[::2], (3, f'make_record: {told}\n'))
+
     def of_capture(self, octets, *words):
         with tempfile.NamedTemporaryFile(suffix='.pcap') as file:
             file.write(octets)

@@ -1,0 +1,17 @@
+pub mod StepLemmas
+pub mod RunLemmas
+pub mod ListLemmas
+pub mod RingLemmas
+pub mod ServeLemmas
+pub mod SampleLemmas
+pub mod SettleLemmas
+pub mod OpenLemmas
+pub mod CloseLemmas
+pub mod FilingLemmas
+pub mod ApartLemmas
+pub mod FinalLemmas
+pub mod OrderLemmas
+pub mod EventLemmas
+pub mod PartLemmas
+pub mod OrderLaws
+pub mod CrewLemmas

@@ -193,6 +193,19 @@ class Made(unittest.TestCase):
         kinds = [kind for _, kind, _ in hkrec.Reader(io.BytesIO(self.record))]
         self.assertEqual((kinds.count(b'S'), kinds.count(b'G')), (200, 18700 + 80))
 
+    def test_packets_by_hand(self):
+        """By what docs/FORMATS.md says of the session: the first report, one that comes twice, one that comes late, the first request."""
+        packets = [octets for _, _, octets in hkrec.Reader(io.BytesIO(self.record))]
+        # parameters 1 to 6 in slot 3, and parameter 37 in slots 1 and 3
+        values = struct.pack('>8H', 53, 84, 115, 146, 177, 208, 1155, 1169)
+        first = bytes.fromhex('0864c000001d' '20' '0319' '0000' '0001' '000000004001' '01') + values
+        self.assertEqual(packets[0], first)
+        self.assertEqual(packets[6].hex(), '1864c0000008' '2f' '031f' '0001' '01010002')
+        tags = [int.from_bytes(octets[13:19], 'big') for octets in packets]
+        twice, late, after = (4 * 20 + 4) * 4096 + 3, (4 * 8 + 4) * 4096 + 2, (4 * 9 + 4) * 4096 + 6
+        self.assertEqual((tags.count(twice), tags[tags.index(twice) + 1]), (2, twice))
+        self.assertEqual((tags.count(late), tags[tags.index(late) - 1]), (1, after))
+
     @needs_program
     def test_what_the_program_decides(self):
         with tempfile.TemporaryDirectory() as folder:

@@ -206,19 +206,16 @@ def ended(main):
         return status
     except Stop as stop:
         tell(stop.text)
-        status = stop.status
+        return stop.status
+    except KeyboardInterrupt:
+        return 130
     except BrokenPipeError:
         status = 0
     except OSError as fault:
         tell(f'write fault: {fault.strerror}')
         status = 6
-    except KeyboardInterrupt:
-        status = 130
-    try:
-        sys.stdout.flush()
-    except OSError:
-        # what is still held can't go anywhere
-        os.dup2(os.open(os.devnull, os.O_WRONLY), sys.stdout.fileno())
+    # what is still held can't go anywhere
+    os.dup2(os.open(os.devnull, os.O_WRONLY), sys.stdout.fileno())
     return status
 
 
@@ -233,17 +230,19 @@ def opened(path):
 
 
 class Output:
-    """Where octets go: standard output, or a file that appears under its name only once all is written. A `with` block ends it."""
+    """Where octets go: standard output, held in pieces, or a file that appears under its name only once all is written. A `with` block gives
+    the file and ends it."""
 
     def __init__(self, path):
         self.path = path
-        self.file = open(f'{path}.part', 'wb') if path else sys.stdout.buffer
+        self.file = open(f'{path}.part', 'wb') if path else open(sys.stdout.fileno(), 'wb', closefd=False)
 
     def __enter__(self):
         return self.file
 
     def __exit__(self, kind, *_):
         if not self.path:
+            self.file.flush()
             return
         self.file.close()
         if kind is None:

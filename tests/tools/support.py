@@ -6,6 +6,9 @@ import struct
 import subprocess
 import unittest
 
+# a tool has to hand its output on by itself where that matters
+os.environ.pop('PYTHONUNBUFFERED', None)
+
 TOP = pathlib.Path(__file__).resolve().parents[2]
 TOOLS = TOP / 'tools'
 EXAMPLES = TOP / 'examples'

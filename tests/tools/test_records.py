@@ -1,7 +1,9 @@
 """Tests of tools/hkrec.py, make_record, split_record and generate_record."""
+import contextlib
 import io
 import os
 import random
+import signal
 import struct
 import subprocess
 import sys
@@ -42,6 +44,31 @@ class OneByOne(io.RawIOBase):
 
     def read(self, _=-1):
         return bytes([octet for _, octet in zip(range(1), self.octets)])
+
+
+class Parts(io.RawIOBase):
+    """A file that gives one part at each reading."""
+
+    def __init__(self, *parts):
+        self.parts = iter(parts)
+
+    def read(self, _=-1):
+        return next(self.parts, b'')
+
+
+@contextlib.contextmanager
+def at_most(seconds):
+    """What waits for longer fails."""
+    def late(*_):
+        raise TimeoutError(f'nothing came for {seconds} s')
+
+    before = signal.signal(signal.SIGALRM, late)
+    signal.alarm(seconds)
+    try:
+        yield
+    finally:
+        signal.alarm(0)
+        signal.signal(signal.SIGALRM, before)
 
 
 def fault_of(file):
@@ -112,8 +139,7 @@ class Records(unittest.TestCase):
         most = HEADER + entry('G', b'') * 1_000_000
         self.assertIsNone(fault_of(io.BytesIO(most)))
         # what stands there doesn't matter, since no entry may
-        for more in (b'G', b'X', entry('S', b'a')):
-            self.assertEqual(str(fault_of(io.BytesIO(most + more))), 'record: too many entries at 5000008')
+        self.assertEqual(str(fault_of(Parts(most, b'X'))), 'record: too many entries at 5000008')
 
     def test_the_writer_refuses_what_the_format_refuses(self):
         record = hkrec.Writer(io.BytesIO(), known=False)
@@ -133,7 +159,7 @@ class Records(unittest.TestCase):
 
     def test_an_entry_is_given_before_the_next_is_there(self):
         out, into = os.pipe()
-        with os.fdopen(out, 'rb') as file, os.fdopen(into, 'wb', buffering=0) as pipe:
+        with os.fdopen(out, 'rb') as file, os.fdopen(into, 'wb', buffering=0) as pipe, at_most(60):
             pipe.write(HEADER + entry('G', b'abc'))
             record = iter(hkrec.Reader(file))
             self.assertEqual(next(record), (8, b'G', b'abc'))
@@ -166,6 +192,19 @@ class Made(unittest.TestCase):
     def test_counts(self):
         kinds = [kind for _, kind, _ in hkrec.Reader(io.BytesIO(self.record))]
         self.assertEqual((kinds.count(b'S'), kinds.count(b'G')), (200, 18700 + 80))
+
+    def test_packets_by_hand(self):
+        """By what docs/FORMATS.md says of the session: the first report, one that comes twice, one that comes late, the first request."""
+        packets = [octets for _, _, octets in hkrec.Reader(io.BytesIO(self.record))]
+        # parameters 1 to 6 in slot 3, and parameter 37 in slots 1 and 3
+        values = struct.pack('>8H', 53, 84, 115, 146, 177, 208, 1155, 1169)
+        first = bytes.fromhex('0864c000001d' '20' '0319' '0000' '0001' '000000004001' '01') + values
+        self.assertEqual(packets[0], first)
+        self.assertEqual(packets[6].hex(), '1864c0000008' '2f' '031f' '0001' '01010002')
+        tags = [int.from_bytes(octets[13:19], 'big') for octets in packets]
+        twice, late, after = (4 * 20 + 4) * 4096 + 3, (4 * 8 + 4) * 4096 + 2, (4 * 9 + 4) * 4096 + 6
+        self.assertEqual((tags.count(twice), tags[tags.index(twice) + 1]), (2, twice))
+        self.assertEqual((tags.count(late), tags[tags.index(late) - 1]), (1, after))
 
     @needs_program
     def test_what_the_program_decides(self):
@@ -241,8 +280,11 @@ class FromLines(unittest.TestCase):
         with subprocess.Popen([TOOLS / 'make_record', 'lines', '-', '--known'], stdin=subprocess.PIPE, stdout=subprocess.PIPE) as tool:
             tool.stdin.write(b'got 0001c000000041\n')
             tool.stdin.flush()
-            self.assertEqual(tool.stdout.read(8 + 5 + 7), HEADER + entry('G', bytes.fromhex('0001c000000041')))
-            tool.stdin.close()
+            try:
+                with at_most(60):
+                    self.assertEqual(tool.stdout.read(8 + 5 + 7), HEADER + entry('G', bytes.fromhex('0001c000000041')))
+            finally:
+                tool.stdin.close()
 
 
 class FromFiles(unittest.TestCase):
@@ -299,8 +341,7 @@ class FromCaptures(unittest.TestCase):
     def test_udp(self):
         wanted = (EXAMPLES / 'asked_again.rec').read_bytes()
         capture = EXAMPLES / 'asked_again.pcap'
-        for words in (('--sent-to', 10025, '--got-to', 10015), ('--sent-from', 10015, '--got-from', 10025), ('--by-type',),
-                      ('--by-type', '--port', 10025)):
+        for words in (('--sent-from', 10015, '--got-from', 10025), ('--by-type', '--port', 10025)):
             status, record, said = run('make_record', 'pcap', capture, *words, '--known', '--leave-out')
             self.assertEqual((status, record, said), (0, wanted, 'make_record: frame 4, octet 0: the version is 3: left out\n'))
         self.assertEqual(run('make_record', 'pcap', capture, '--by-type', '--known')[::2],

@@ -49,8 +49,9 @@ def missing(command):
 
 
 def makes(command):
-    """The files, folders and variables that a command makes."""
+    """The files, folders and variables that a command may make: where output goes, and names with an ending and no folder."""
     found = re.findall(r'(?:>|-o|-x \S+) ?([\w./]+)', command) + re.findall(r'^(\w+)=', command)
+    found += [word for word in command.split() if re.fullmatch(r'\w+\.[a-z]+', word)]
     return {name for name in found if not name.startswith('/dev/')}
 
 
@@ -62,7 +63,7 @@ def uses(command, names):
 class Pages(unittest.TestCase):
     def plan(self, text):
         """The commands that are run, with what they print, and those that are skipped, with the reason."""
-        run, skipped, lacking = [], [], set()
+        run, skipped, lacking, made = [], [], set(), set()
         last_skipped, folder = None, None
         for command, printed in commands(text):
             why = missing(command)
@@ -71,11 +72,12 @@ class Pages(unittest.TestCase):
             if why is None and folder and ('cd ' in command or '$OLDPWD' in command):
                 why = folder
             if why:
-                lacking |= makes(command)
+                lacking |= makes(command) - made
                 skipped.append((command, why))
                 folder = why if command.startswith('cd ') else folder
             else:
                 run.append((command, printed))
+                made |= makes(command)
             last_skipped = why
         return run, skipped
 
@@ -121,6 +123,7 @@ class Pages(unittest.TestCase):
         text = 'Words\n\n    $ a | b\n    one\n\n      two\n    $ c\n\n    no command\n\nwords\n\n    $ d\n    three\n'
         self.assertEqual(commands(text), [('a | b', ['one']), ('c', []), ('d', ['three'])])
         self.assertEqual(makes('x -o a.rec > b.txt 2> /dev/null'), {'a.rec', 'b.txt'})
+        self.assertEqual(makes('x s.db examples/a.rec'), {'s.db'})
         self.assertTrue(uses('cmp - a.rec', {'a.rec'}))
         self.assertFalse(uses('cmp - aa.rec', {'a.rec'}))
 

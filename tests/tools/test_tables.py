@@ -399,9 +399,22 @@ class Session(unittest.TestCase):
     """The commands of docs/TOOLS.md: the lines after `$`, and what they print."""
     PAGE = TOP / 'docs' / 'TOOLS_part2.md'
 
-    def test_queries_are_five(self):
+    def test_queries(self):
+        """Each query of the page answers what stands below it, over the texts in examples/."""
         page = (self.PAGE if self.PAGE.exists() else TOP / 'docs' / 'TOOLS.md').read_text()
-        self.assertEqual(len(re.findall(r'\$ sqlite3 ', page)), 5)
+        queries = [(command, printed) for command, printed in commands(page) if command.startswith('sqlite3 ')]
+        self.assertEqual(len(queries), 5)
+        with tempfile.TemporaryDirectory() as folder:
+            path = pathlib.Path(folder, 's.db')
+            for name in ('request', 'confirmed', 'session', 'asked_again', 'cubesat'):
+                tailoring = EXAMPLES / 'cubesat.toml' if name == 'cubesat' else 'builtin'
+                self.assertEqual(run('hk_sqlite', path, tailoring, EXAMPLES / f'{name}.txt', '--names', EXAMPLES / 'cubesat_names.csv')[0], 0)
+            base = sqlite3.connect(path)
+            for command, printed in queries:
+                query = re.fullmatch(r'sqlite3 s.db "(.*)"', command).group(1)
+                found = ['|'.join(map(str, row)) for row in base.execute(query)]
+                self.assertEqual(sorted(found), sorted(printed.splitlines()), query)
+            base.close()
 
     @unittest.skipUnless(PROGRAM.is_file() or os.environ.get('HK_REPLAY_NEEDED') == '1', "hk_replay isn't built")
     @unittest.skipUnless(PAGE.exists(), 'the page is a part of docs/TOOLS.md, whose commands test_records runs')
@@ -418,27 +431,25 @@ class Session(unittest.TestCase):
             for name in ('tools', 'examples'):
                 (folder / name).symlink_to(TOP / name)
             seen = 0
-            for block in re.findall(r'(?:^    .*\n|^ *\n(?=    ))+', self.PAGE.read_text(), re.MULTILINE):
-                for command, expected in commands(block):
-                    done = subprocess.run(['bash', '-c', command], cwd=folder, text=True, stdout=subprocess.PIPE, stderr=subprocess.STDOUT,
-                                          env={**os.environ, 'PATH': f"{folder / 'bin'}:{os.environ['PATH']}"}, check=False)
-                    self.assertEqual(done.stdout, expected, command)
-                    seen += 1
+            for command, expected in commands(self.PAGE.read_text()):
+                done = subprocess.run(['bash', '-c', command], cwd=folder, text=True, stdout=subprocess.PIPE, stderr=subprocess.STDOUT,
+                                      env={**os.environ, 'PATH': f"{folder / 'bin'}:{os.environ['PATH']}"}, check=False)
+                self.assertEqual(done.stdout, expected, command)
+                seen += 1
             self.assertGreaterEqual(seen, 8)
 
 
-def commands(block):
-    """The commands of a block of code, which go on while a line ends in a backslash or a quote is open, and what each prints."""
-    found, lines = [], [line[4:] for line in block.splitlines() if line.strip()]
-    while lines:
-        line = lines.pop(0)
-        if line.startswith('$ '):
-            command = line[2:]
-            while command.count('"') % 2 or command.endswith('\\'):
-                command += '\n' + lines.pop(0)
-            found.append([command, ''])
-        elif found:
-            found[-1][1] += line + '\n'
+def commands(page):
+    """The commands of a page's blocks of code, and what each prints."""
+    found, inside = [], False
+    for line in page.splitlines():
+        if line.startswith('    $ '):
+            found.append([line[6:], ''])
+            inside = True
+        elif not line.startswith('    '):
+            inside = False
+        elif inside:
+            found[-1][1] += line[4:] + '\n'
     return found
 
 

@@ -316,7 +316,12 @@ class Pages(unittest.TestCase):
     def test_changes_of_definition(self):
         text = ONE + 'report hk 1 tag 24577 decided interval 2\nvalue 1 slot 5 = 43\nvalue 7 slot 5 = 1\n'
         lane, = page_data(self.page('builtin', given=text))['structures']
-        self.assertEqual(lane['changes'], [[16385, 24577, 'interval 4 to 2, with 7']])
+        self.assertEqual(lane['changes'], [[16385, 24577, 'interval 4 to 2, with 7', 4]])
+
+    def test_reports_without_values(self):
+        data = page_data(self.page('builtin', EXAMPLES / 'statistics.txt'))
+        self.assertEqual(data['statistics'], [['0.12512207', '0', '0.12512207', '2', '2', '-3', '0', '-4', '0.0625', '-4', '1']])
+        self.assertEqual((data['values'], data['counts']), ([['0.125137329', '7', '500']], {'repeats': 1}))
 
     def test_nothing_from_outside(self):
         with tempfile.TemporaryDirectory() as folder:

@@ -390,6 +390,12 @@ class Large(unittest.TestCase):
         self.assertEqual((shown[0], shown[-1]), (written[0], written[-1]))
         self.assertEqual({min(value for _, value in shown), max(value for _, value in shown)},
                          {min(value for _, value in written), max(value for _, value in written)})
+        # The line runs on from one point to the next exactly where decided reports cover all slots between.
+        covered = set()
+        for tag, interval in re.findall(r'report hk 1 tag (\d+) decided interval (\d+)', self.path.read_text()):
+            covered |= set(range(int(tag) // 4096 - int(interval), int(tag) // 4096))
+        self.assertEqual(plot['b'], [at for at in range(1, len(shown))
+                                     if not set(range(shown[at - 1][0], shown[at][0] + 1)) <= covered])
         steps = {}
         for slot, value in written:
             steps.setdefault(slot // plot['step'], []).append(value)

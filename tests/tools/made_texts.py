@@ -24,7 +24,8 @@ def parameters(structure):
 def blocks(seed, rounds):
     """Each block's text, in the order of tags."""
     interval = dict.fromkeys(range(1, STRUCTURES + 1), 4)
-    opened = {}    # structure: the request that leaves it open, and the round from which a later request decides it again
+    opened = {}    # structure: the request that leaves it open, and the last round before a later request decides it again
+    untold = {}    # structure: its first request of which nothing ever tells; it is the one that is named
     for at in range(rounds):
         last = 4 * at + 3
         for structure in range(1, STRUCTURES + 1) if at % 20 != 10 else ():
@@ -42,7 +43,9 @@ def blocks(seed, rounds):
             request = at // 16
             structure = 1 + request % 6
             if request % 10 in (4, 6, 9):
-                opened[structure] = request, at + (16 if request % 10 == 6 else 96)
+                if request % 10 != 6:
+                    untold.setdefault(structure, request)
+                opened[structure] = untold.get(structure, request), at + (16 if request % 10 == 6 else 96)
             if request % 10 != 9:
                 interval[structure] = 2 if request // 6 % 2 == 0 else 4
 

@@ -1,4 +1,4 @@
-"""Runs the commands of docs/TOOLS.md, and of docs/TOOLS_part2.md where that stands, and compares what they print with what the page shows.
+"""Runs the commands of docs/TOOLS.md, and compares what they print with what the page shows.
 
 A command is a line that begins with `$ ` in a block of lines indented by four blanks; what it prints follows up to the next command or the
 end of the block. All commands of a page run in its order in one shell, in one folder, from which tools, examples, docs and tests are seen,
@@ -14,7 +14,7 @@ import unittest
 
 from support import PROGRAM, TOP
 
-PAGES = ('TOOLS.md', 'TOOLS_part2.md')
+PAGE = 'TOOLS.md'
 # commands that needn't be on a machine
 OPTIONAL = ('tshark', 'lintian', 'dpkg-deb', 'sqlite3', 'chromium', 'cmp')
 CALLED = {'make_record pcap': 'tshark', 'tools/package': 'dpkg-deb'}
@@ -60,7 +60,7 @@ def uses(command, names):
     return any(re.search(rf'(^|[\s$/]){re.escape(name)}($|[\s/])', command) for name in names)
 
 
-class Pages(unittest.TestCase):
+class Page(unittest.TestCase):
     def plan(self, text):
         """The commands that are run, with what they print, and those that are skipped, with the reason."""
         run, skipped, lacking, made = [], [], set(), set()
@@ -97,8 +97,8 @@ class Pages(unittest.TestCase):
                                   stderr=subprocess.STDOUT, check=False, env={**os.environ, 'PATH': f'{folder}/bin:{os.environ["PATH"]}'})
         return done.stdout.decode(errors='replace').split(MARK + '\n')[1:]
 
-    def check(self, page):
-        text = (TOP / 'docs' / page).read_text()
+    def test_page(self):
+        text = (TOP / 'docs' / PAGE).read_text()
         run, skipped = self.plan(text)
         self.assertGreater(len(run) + len(skipped), 0)
         printed = self.run_page(run)
@@ -110,14 +110,7 @@ class Pages(unittest.TestCase):
             with self.subTest(command=command):
                 if why == "hk_replay isn't built" and os.environ.get('HK_REPLAY_NEEDED') == '1':
                     self.fail(why)
-                self.skipTest(f'a command of docs/{page}: {why}')
-
-    def test_tools(self):
-        self.check(PAGES[0])
-
-    @unittest.skipUnless((TOP / 'docs' / PAGES[1]).is_file(), 'there is no second part')
-    def test_second_part(self):
-        self.check(PAGES[1])
+                self.skipTest(f'a command of docs/{PAGE}: {why}')
 
     def test_commands_are_found(self):
         text = 'Words\n\n    $ a | b\n    one\n\n      two\n    $ c\n\n    no command\n\nwords\n\n    $ d\n    three\n'

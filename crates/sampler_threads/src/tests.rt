@@ -179,7 +179,7 @@ fn crew(
 }
 
 /// What the executor has filed, and whether the samples of each sampler are there once and in order.
-fn done(
+fn done_by(
     alloc: Global,
     executor: &Executor,
     samplers: &[Sampler<TableSensor>],
@@ -218,7 +218,7 @@ fn one_slot<R: Threads + Wait + Sync, G: Gate + Sync>(
         uplinks.as_slice(),
         gate,
     )?;
-    Ok(done(alloc, &executor, samplers.as_slice(), moments)?)
+    Ok(done_by(alloc, &executor, samplers.as_slice(), moments)?)
 }
 
 const NONE: (u32, u32) = (0, 0);

@@ -152,7 +152,7 @@ octets_taken r = octets_taken_by r.header r.offset r.held
 abbrev pub most_taken : Reading → ℕ
 most_taken r = most_octets + 5 + r.most
 
--- Not too much was taken in all, and behind what comes next less than a piece is held. Before the header was read the first entry is at 8.
+-- Not too much was taken in all, and less than a piece is held behind what comes next. Before the header was read the first entry is at 8.
 pub record IsWithin (r : Reading) : Type 0 where
   pub start : r.header ≡ None → r.offset ≡ 8
   pub all : octets_taken r < most_taken r
@@ -162,6 +162,10 @@ pub record IsWithin (r : Reading) : Type 0 where
 -- where the shelf told what it had left: what it gave is what the reader took
 abbrev pub AreTaken : Reading → Option (List ℕ) → Reading → Option (List ℕ) → Type 0
 AreTaken before rest after left = IfSome rest (λ was. IfSome left (λ now. length was + octets_taken before ≡ length now + octets_taken after) × IsSome left)
+
+-- not too much was taken in all
+abbrev pub TakesFew : Reading → Reading → Type 0
+TakesFew before after = (octets_taken after < most_taken before) × (after.most ≡ before.most)
 
 -- behind an entry that was given less than a piece is held
 abbrev pub HoldsLess : Result (Option (ℕ × Entry)) RecordFault → Reading → Type 0

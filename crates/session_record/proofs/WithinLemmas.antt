@@ -119,6 +119,14 @@ grown-within r grown low unready within grows = by_header r.header refl
               omega (arith, shorter, sizes, grows.2);
         }
 
+-- the same by a buffer of as many octets
+pub grown-fields : (r : Reading) (grown : List ℕ) (size now : ℕ) → r.offset ≤ most_octets → is_ready r ≡ false → IsWithin r → Grows size r.held grown → size ≡ r.most → now ≡ r.most
+    → IsWithin (record r { held = grown; most = now })
+grown-fields r grown size now low unready within grows size_is now_is =
+    let few : length grows.0 ≤ r.most = omega (arith, grows.2, size_is) in
+    let Q : ℕ → Type 0 = λ m. IsWithin (record r { held = grown; most = m }) in
+    subst Q (sym now_is) (grown-within r grown low unready within (grows.0, grows.1, few))
+
 -- behind an entry as many octets were taken
 pub behind-taken : (r : Reading) (size : ℕ) → IsSome r.header → size ≤ length r.held → octets_taken (behind r size) ≡ octets_taken r
 behind-taken r size some held = by_header r.header some

@@ -2,9 +2,9 @@
 ghost use Rattle.std.specs.Prelude.{◌≡◌, ◌≤◌, ◌<◌, ◌+◌, ◌^◌, ◌∷◌, [], ◌++◌, length, IsErrOf, IfSome, IsSome, OnOk};
 ghost use Rattle.hk_base.specs.Outside.{HasRisen};
 ghost use Rattle.program_edge.specs.Faults.{IsOfLines};
-ghost use Rattle.program_edge.specs.Inputs.{IsReadOut};
+ghost use Rattle.program_edge.specs.Inputs.{IsReadOut, TakesAtMost, piece_octets};
 ghost use Rattle.record_commands.specs.Packets as requests;
-ghost use Rattle.record_commands.specs.Encoding.{lines, line_length, packets, with_packets, record_of_lines, encoded, Encodes, IsPut, IsLinePut};
+ghost use Rattle.record_commands.specs.Encoding.{most_lines_octets, lines, line_length, packets, with_packets, record_of_lines, encoded, Encodes, IsPut, IsLinePut};
 
 use crate::packets::line_packet;
 use hk_base::{Items, Octets, Shelf, Tailoring};
@@ -25,6 +25,7 @@ pub fn encode<F: Shelf>(
 ) -> Result<Octets, RunFault>
     ensures outcome { IfSome (F.rest shelf.old) (λ octets. Encodes result (encoded tailoring.now octets)) }
     ensures end { OnOk result (IsReadOut (F.rest shelf.old) (F.rest shelf.new)) }
+    ensures bounded { TakesAtMost (most_lines_octets + piece_octets) (F.rest shelf.old) (F.rest shelf.new) }
     ensures causes { IsOfLines result }
     ensures failed { IsErrOf result RunFault.ReadFault → HasRisen (F.faults shelf.old) (F.faults shelf.new) }
     ensures sound { F.is_sound shelf.old → IsSome (F.rest shelf.old) → F.faults shelf.new ≡ F.faults shelf.old }

@@ -1,6 +1,7 @@
 //! A record without what a recorder that was cut off left behind its last whole entry.
-ghost use Rattle.std.specs.Prelude.{◌≡◌, ◌+◌, ◌≤◌, ◌^◌, [], ◌++◌, length, Result, ℕ, List, IsErrOf, IfSome, IsSome, IfOk, IfErr, OnOk};
+ghost use Rattle.std.specs.Prelude.{◌≡◌, ◌+◌, ◌≤◌, ◌^◌, [], ◌++◌, length, Result, Some, ℕ, List, IsErrOf, IfSome, IsSome, IfOk, IfErr, OnOk};
 ghost use Rattle.hk_base.specs.Outside.{HasRisen};
+ghost use Rattle.session_record.specs.Records as records;
 ghost use Rattle.session_record.specs.Records.{held_octets, entry_octets, header_octets};
 ghost use Rattle.session_record.specs.Reading.{reading_at_start, to_come};
 ghost use Rattle.record_commands.specs.Trimming.{trimmed_octets, HasReadWhole, IsKeptTo, IsReadToCut, ReadsAs, TakesWhole, IsTrimmed, IsKept};
@@ -10,8 +11,19 @@ use program_edge::{Draft, PIECE_OCTETS};
 use session_record::{Entry, RecordFault, RecordReader};
 use std::alloc::Global;
 
-/// The header and the whole entries of the record that the shelf has selected.
+/// The header and the whole entries of the record that the shelf has selected: the longest first part of it that is a record.
 pub fn trimmed<F: Shelf>(alloc: Global, shelf: &mut F) -> Result<Vec<u8>, RecordFault>
+    ensures longest { IfSome (F.rest shelf.old) (λ octets. IfOk result (λ out. records.trimmed octets ≡ Some out.items)) }
+    ensures end { OnOk result (HasReadWhole (F.rest shelf.old) (F.rest shelf.new)) }
+    ensures outcome { IfSome (F.rest shelf.old) (λ octets. ReadsAs (λ out. out.items) result (trimmed_octets octets)) }
+    ensures failed { IsErrOf result RecordFault.ReadFault → HasRisen (F.faults shelf.old) (F.faults shelf.new) }
+    ensures sound { F.is_sound shelf.old → IsSome (F.rest shelf.old) → F.faults shelf.new ≡ F.faults shelf.old }
+{
+    whole_entries(alloc, shelf)
+}
+
+/// The same, by what is kept of it.
+fn whole_entries<F: Shelf>(alloc: Global, shelf: &mut F) -> Result<Vec<u8>, RecordFault>
     ensures end { OnOk result (HasReadWhole (F.rest shelf.old) (F.rest shelf.new)) }
     ensures outcome { IfSome (F.rest shelf.old) (λ octets. ReadsAs (λ out. out.items) result (trimmed_octets octets)) }
     ensures failed { IsErrOf result RecordFault.ReadFault → HasRisen (F.faults shelf.old) (F.faults shelf.new) }

@@ -146,6 +146,16 @@ behind-within r size some held near within =
       ahead = λ next _ _. omega (arith, left, near, held);
     }
 
+-- the same by another name of the size
+pub near-by : (held size most given : ℕ) → held < size + most → given ≡ size → held < given + most
+near-by held size most given near is = omega (arith, near, is)
+
+-- what is held behind an entry
+pub behind-less : (s after : Reading) (size : ℕ) → after ≡ behind s size → length s.held < size + s.most → 0 < s.most → length after.held < after.most
+behind-less s after size is near some =
+    let left = length-drop size s.held in
+    subst (λ (r : Reading). length r.held < r.most) (sym is) (omega (arith, left, near, some))
+
 -- the header that was read is behind what was taken
 pub header-taken-same : (r : Reading) (h : Header) → r.header ≡ None → 8 ≤ length r.held → IsWithin r → octets_taken_by (Some h) r.offset (drop 8 r.held) ≡ octets_taken r
 header-taken-same r h none long within =

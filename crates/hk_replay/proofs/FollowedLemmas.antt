@@ -1,11 +1,11 @@
 -- What `follow` wrote, as an outcome of the program, and that it is true.
-use Rattle.std.proofs.Common.{◌≡◌, ℕ, List, [], ◌++◌, map, take, drop, Option, Some, None, Ok, sym, ap, subst, ◌∙◌, append-nil}
+use Rattle.std.proofs.Common.{arith, ◌≡◌, ◌⊎◌, inl, inr, ℕ, List, [], ◌++◌, length, map, take, drop, Option, Some, None, Ok, sym, ap, subst, ◌∙◌, append-nil}
 use Rattle.std.specs.Prelude.{IfSome, option_map}
 use Rattle.std.specs.Option.{option_or}
-use Rattle.std.proofs.lemmas.List.{take-append-drop}
+use Rattle.std.proofs.lemmas.List.{take-append-drop, take_all}
 use Rattle.hk_base.specs.TailoringParts.{TailoringParts}
 use Rattle.pus_messages.specs.Messages.{protocol}
-use Rattle.session_record.specs.Written.{IsPrefixWritten}
+use Rattle.session_record.specs.Written.{IsWritten, IsPrefixWritten}
 use Rattle.session_record.specs.declared.header.Header.{Header}
 use Rattle.session_record.specs.declared.entry.Entry.{Entry}
 use Rattle.hk_world.specs.Worlds.{World}
@@ -18,19 +18,33 @@ use Rattle.followed_records.specs.Told.{Told, told_text, told_until, told_of, to
 use Rattle.followed_records.specs.Following.{FollowsUntil}
 use Rattle.followed_records.specs.declared.fault.FollowingFault.{FollowingFault}
 use Rattle.followed_records.specs.declared.fault.FollowingFault.TheVariants as following
-use Rattle.hk_replay.specs.Faults.{status_of_following}
+use Rattle.hk_replay.specs.Faults.{status_of_following, status_of_found}
 use Rattle.hk_replay.specs.Outcomes.{Outcome, listed, status_of_problem, follow_outcome}
 use Rattle.hk_replay.specs.Words.{Command, on_record, replay, follow, show, encode, check, trim, generate}
 use Rattle.hk_replay.specs.Replay.{HasOutput}
 use Rattle.hk_replay.specs.Inputs.{TellsOf, IsToFollow}
 use Rattle.hk_replay.specs.Truth.{IsRecordOf, IsTruePart, IsTrueFollow}
+use Rattle.hk_replay.proofs.StatusLemmas.{found}
 use Rattle.hk_replay.specs.declared.status.ReplayStatus.{ReplayStatus}
 use Rattle.hk_replay.specs.declared.status.ReplayStatus.TheVariants.{Done, Usage, Tailoring, Record, ReadFault, WriteFault, NoMemory, Text}
+
+-- all of a text is a first part of it
+all_written : (text : List ℕ) (before after : Option (List ℕ)) → IsWritten before text after → IsPrefixWritten before text after
+all_written text None after h = (length text, omega arith, tt)
+all_written text (Some taken) after h = (length text, omega arith, h ∙ ap (λ xs. Some (taken ++ xs)) (sym (take_all text)))
+
+-- how the run ends by what was found to be wrong
+found_output : (s : ReplayStatus) (problem : RecordProblem) (t : TailoringParts) (octets : List ℕ) (before after : Option (List ℕ)) → (s ≡ Record problem) ⊎ (s ≡ NoMemory)
+    → ((told t octets).problem ≡ Some problem) × IsWritten before (told_text (told t octets)) after → HasOutput s (follow_outcome t octets) before after
+found_output s problem t octets before after (inl is) h =
+    subst (λ (x : ReplayStatus). HasOutput x (follow_outcome t octets) before after) (sym is) (sym (ap status_of_problem h.0), h.1)
+found_output s problem t octets before after (inr is) h =
+    subst (λ (x : ReplayStatus). HasOutput x (follow_outcome t octets) before after) (sym is) (all_written (told_text (told t octets)) before after h.1)
 
 -- how following ended is how the run ends
 follows_output : (t : TailoringParts) (octets : List ℕ) (left before after : Option (List ℕ)) (fault : FollowingFault) → FollowsUntil fault (told t) octets left before after
     → HasOutput (status_of_following fault) (follow_outcome t octets) before after
-follows_output t octets left before after (following.Record problem) h = (sym (ap status_of_problem h.0), h.1)
+follows_output t octets left before after (following.Record problem) h = found_output (status_of_found problem) problem t octets before after (found problem) h
 follows_output t octets left before after following.ReadFault h = h.1
 follows_output t octets left before after following.WriteFault h = h
 follows_output t octets left before after following.Memory h = h

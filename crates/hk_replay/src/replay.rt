@@ -1,5 +1,5 @@
 //! One run of the program.
-ghost use Rattle.std.specs.Prelude.{◌≡◌, ◌≤◌, ◌↔◌, ℕ, List, None, length, map, take, IfSome};
+ghost use Rattle.std.specs.Prelude.{◌≡◌, ◌≤◌, ◌↔◌, ℕ, List, None, Some, length, map, take, IfSome};
 ghost use Rattle.std.specs.String.{string_bytes};
 ghost use Rattle.hk_base.specs.Outside.{HasRisen};
 ghost use Rattle.hk_base.specs.TailoringParts.{TailoringParts};
@@ -9,6 +9,7 @@ ghost use Rattle.journaled_records.specs.OwnWorlds.{IsOwnRecord};
 ghost use Rattle.hk_replay.specs.Cut.{IsCutRecord, IsTrueCutRun, IsTrueTrim, Trims};
 ghost use Rattle.hk_replay.specs.Truth.{IsRecordOf, IsTrueFollow, IsTrueRun};
 ghost use Rattle.hk_replay.specs.Words.{command_of};
+ghost use Rattle.hk_replay.specs.Asked.{asked};
 ghost use Rattle.hk_replay.specs.Faults.{IsPlain};
 ghost use Rattle.hk_replay.specs.Outcomes.{Outcome, outcome_text};
 ghost use Rattle.hk_replay.specs.Replay.{HasOutput, WritesNothing};
@@ -88,9 +89,24 @@ fn run<F: Shelf, K: Sink>(
 {
     match command_in(words) {
         None => ReplayStatus::Usage,
-        Some(Command::Make(job)) => made(alloc, job, shelf, sink),
-        Some(Command::OnRecord(command, tailoring, name)) => {
-            under_tailoring(alloc, command, tailoring, name, shelf, sink)
+        Some(command) => done(alloc, command, shelf, sink),
+    }
+}
+
+/// Does what a command says.
+fn done<F: Shelf, K: Sink>(
+    alloc: Global,
+    command: Command<'_>,
+    shelf: &mut F,
+    sink: &mut K,
+) -> ReplayStatus
+    ensures { IsProgramRun (Some (asked command.entry)) result (F.files shelf.old) (F.is_sound shelf.old) (F.faults shelf.old) (F.faults shelf.new)
+        (F.rest shelf.old) (F.rest shelf.new) (K.taken sink.old) (K.taken sink.new) (K.room sink.old) (K.faults sink.old) (K.faults sink.new) }
+{
+    match command {
+        Command::Make(job) => made(alloc, job, shelf, sink),
+        Command::OnRecord(how, tailoring, name) => {
+            under_tailoring(alloc, how, tailoring, name, shelf, sink)
         }
     }
 }

@@ -31,13 +31,14 @@ use Rattle.hk_replay.specs.declared.status.ReplayStatus.TheVariants.{Done, Usage
 -- all of a text is a first part of it
 all_written : (text : List ℕ) (before after : Option (List ℕ)) → IsWritten before text after → IsPrefixWritten before text after
 all_written text None after h = (length text, omega arith, tt)
-all_written text (Some taken) after h = (length text, omega arith, h ∙ ap (λ xs. Some (taken ++ xs)) (sym (take_all text)))
+all_written text (Some taken) after h = (length text, omega arith, h ∙ ap (λ xs. Some (taken ++ xs)) (sym (take_all (length text) text (omega arith))))
 
 -- how the run ends by what was found to be wrong
 found_output : (s : ReplayStatus) (problem : RecordProblem) (t : TailoringParts) (octets : List ℕ) (before after : Option (List ℕ)) → (s ≡ Record problem) ⊎ (s ≡ NoMemory)
     → ((told t octets).problem ≡ Some problem) × IsWritten before (told_text (told t octets)) after → HasOutput s (follow_outcome t octets) before after
 found_output s problem t octets before after (inl is) h =
-    subst (λ (x : ReplayStatus). HasOutput x (follow_outcome t octets) before after) (sym is) (sym (ap status_of_problem h.0), h.1)
+    let all : HasOutput (Record problem) (follow_outcome t octets) before after = (sym (ap status_of_problem h.0), h.1) in
+    subst (λ (x : ReplayStatus). HasOutput x (follow_outcome t octets) before after) (sym is) all
 found_output s problem t octets before after (inr is) h =
     subst (λ (x : ReplayStatus). HasOutput x (follow_outcome t octets) before after) (sym is) (all_written (told_text (told t octets)) before after h.1)
 

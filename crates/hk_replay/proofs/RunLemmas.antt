@@ -37,15 +37,15 @@ is_told told outcome is = subst (λ (o : Option Outcome). IsSome o) (sym is) ref
 pub unasked : (files : Option (List (List ℕ × List ℕ))) (sound : Type 0) (faults : ℕ) (rest taken : Option (List ℕ)) (room : Option ℕ) (unwritten : ℕ)
     → IsProgramRun None Usage files sound faults faults rest rest taken taken room unwritten unwritten
 unasked files sound faults rest taken room unwritten = record {
-    usage = (λ is. refl, λ is. refl);
-    read_fault = λ is. absurd (cc is);
-    write_fault = λ is. absurd (cc is);
-    plain = tt;
-    end = λ is. absurd (cc is);
-    absent = λ gone. absurd gone;
-    nothing = refl;
-    output = λ outcome tells. absurd tells;
-    given = λ t octets names is. absurd names;
-    sound = λ safe outcome tells. absurd tells;
-    enough = λ outcome tells. absurd tells;
-  }
+  usage = (λ is. refl, λ is. refl);
+  read_fault = λ is. absurd (cc is);
+  write_fault = λ is. absurd (cc is);
+  plain = tt;
+  end = λ is. absurd (cc is);
+  absent = λ gone. absurd gone;
+  nothing = refl;
+  output = λ outcome tells. absurd tells;
+  given = λ t octets names is. absurd names;
+  sound = λ safe outcome tells. absurd tells;
+  enough = λ outcome tells. absurd tells;
+}

@@ -168,7 +168,7 @@ plain_found (problem.Entry sent.SessionFull offset) = tt
 plain_found (problem.Entry (sent.WindowFull number) offset) = tt
 
 pub plain_following : (f : FollowingFault) → IsPlain (status_of_following f)
-plain_following (following.Record problem) = plain_found problem
+plain_following (following.Record p) = plain_found p
 plain_following following.ReadFault = tt
 plain_following following.WriteFault = tt
 plain_following following.Memory = tt

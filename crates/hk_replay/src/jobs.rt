@@ -123,7 +123,8 @@ fn checked_text<F: Shelf>(
     ensures absent { IsAbsent (F.files shelf.old) (named tailoring.entry) → IsErrOf result ReplayStatus.ReadFault }
 {
     let tailoring = tailoring_of(alloc, tailoring, shelf)?;
-    Ok(check_line(alloc, &tailoring)?)
+    let line = check_line(alloc, &tailoring)?;
+    Ok(line)
 }
 
 /// The header and the whole entries of the record of this name, or how the run ends without them.
@@ -138,5 +139,6 @@ fn trimmed_text<F: Shelf>(alloc: Global, name: &str, shelf: &mut F) -> Result<Ve
     if shelf.select(name).is_err() {
         return Err(ReplayStatus::ReadFault);
     }
-    Ok(trimmed(alloc, shelf)?)
+    let octets = trimmed(alloc, shelf)?;
+    Ok(octets)
 }

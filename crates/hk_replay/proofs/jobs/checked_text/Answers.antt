@@ -2,7 +2,7 @@ use Rattle.std.proofs.Common.{◌≡◌, Err, sym, ap, subst, ◌∙◌}
 use Rattle.std.proofs.lemmas.Result.{err_from_is_err_and}
 use Rattle.program_edge.proofs.FaultLemmas.{same_err}
 use Rattle.hk_replay.specs.Faults.{status_of_run}
-use Rattle.hk_replay.proofs.StatusLemmas.{plain_tailoring, read_run, reading_tailoring, without_check}
+use Rattle.hk_replay.proofs.StatusLemmas.{ok_err, plain_tailoring, read_run, reading_tailoring, without_check}
 use Rattle.hk_replay.proofs.jobs.checked_text.Goals as goal
 
 pub returns-in_err-tailoring-clause-early : goal.returns-in_err-tailoring-clause-early
@@ -29,3 +29,9 @@ pub returns-in_err-tailoring-clause-absent : goal.returns-in_err-tailoring-claus
 returns-in_err-tailoring-clause-absent g c =
     let p = err_from_is_err_and c.from_residual.result c.from_residual.ensures.1 in
     rw (p.1, p.2) (λ gone. ap (λ f. Err (status_of_run f)) (same_err _ _ (c.in_err-tailoring.ensures.absent gone)))
+
+pub returns-in_err-line-clause-absent : goal.returns-in_err-line-clause-absent
+returns-in_err-line-clause-absent g c = λ gone. absurd (ok_err _ _ (c.in_ok-tailoring.ensures.absent gone))
+
+pub returns-clause-absent : goal.returns-clause-absent
+returns-clause-absent g c = λ gone. absurd (ok_err _ _ (c.in_ok-tailoring.ensures.absent gone))

@@ -34,14 +34,14 @@ returns-in_err-tailoring-clause-outcome g c =
 pub returns-in_err-tailoring-clause-absent : goal.returns-in_err-tailoring-clause-absent
 returns-in_err-tailoring-clause-absent g c =
     let p = err_from_is_err_and c.from_residual.result c.from_residual.ensures.1 in
-    rw (p.1, p.2) (λ gone. lacking_lines c.in_err-tailoring.field-0.0 (g.F.Shelf.files c.args.shelf.now) (named c.args.tailoring.entry) c.args.name.now c.in_err-tailoring.ensures.causes c.in_err-tailoring.ensures.absent c.in_err-tailoring.ensures.meant)
+    rw (p.1, p.2) (λ gone. lacking_lines c.in_err-tailoring.field-0.0 (g.F.Shelf.files c.args.shelf.now) (named c.args.tailoring) c.args.name.now c.in_err-tailoring.ensures.causes c.in_err-tailoring.ensures.absent c.in_err-tailoring.ensures.meant)
 
 pub returns-clause-absent : goal.returns-clause-absent
 returns-clause-absent g c =
     let files = g.F.Shelf.files c.args.shelf.now in
     let name = c.args.name.now in
-    let what = command.encode (named c.args.tailoring.entry) name in
+    let what = command.encode (named c.args.tailoring) name in
     λ gone.
-    lacking_second files (g.F.Shelf.files c.tailoring_of.new.shelf) (named c.args.tailoring.entry) name (IsErrAnd c.lines_text.result (EndsWithoutInput files what)) gone c.tailoring_of.ensures.files
+    lacking_second files (g.F.Shelf.files c.tailoring_of.new.shelf) (named c.args.tailoring) name (IsErrAnd c.lines_text.result (EndsWithoutInput files what)) gone c.tailoring_of.ensures.files
     (λ first. ok_err _ _ (c.in_ok-tailoring.ensures.absent first))
     (λ second. err_and c.lines_text.result status.ReadFault (EndsWithoutInput files what) (c.lines_text.ensures.absent second) tt)

@@ -44,8 +44,8 @@ pub returns-in-Err-clause-absent : goal.returns-in-Err-clause-absent
 returns-in-Err-clause-absent g c =
     let files = g.F.Shelf.files c.args.shelf.now in
     λ gone. (
-      subst (λ (s : ReplayStatus). EndsWithoutInput files (on_record (asked_of_record c.args.command) (named c.args.tailoring.entry) c.args.name.now) s) (sym c.into.ensures)
-          (lacking_record c.in-Err.fault files (asked_of_record c.args.command) (named c.args.tailoring.entry) c.args.name.now c.in-Err.ensures.causes c.in-Err.ensures.absent c.in-Err.ensures.meant),
+      subst (λ (s : ReplayStatus). EndsWithoutInput files (on_record (asked_of_record c.args.command) (named c.args.tailoring) c.args.name.now) s) (sym c.into.ensures)
+          (lacking_record c.in-Err.fault files (asked_of_record c.args.command) (named c.args.tailoring) c.args.name.now c.in-Err.ensures.causes c.in-Err.ensures.absent c.in-Err.ensures.meant),
       refl,
     )
 
@@ -60,9 +60,9 @@ pub returns-in-Ok-clause-absent : goal.returns-in-Ok-clause-absent
 returns-in-Ok-clause-absent g c =
     let files = g.F.Shelf.files c.args.shelf.now in
     let name = c.args.name.now in
-    let what = on_record (asked_of_record c.args.command) (named c.args.tailoring.entry) name in
+    let what = on_record (asked_of_record c.args.command) (named c.args.tailoring) name in
     λ gone.
-    lacking_second files (g.F.Shelf.files c.tailoring_of.new.shelf) (named c.args.tailoring.entry) name
+    lacking_second files (g.F.Shelf.files c.tailoring_of.new.shelf) (named c.args.tailoring) name
     (EndsWithoutInput files what c.on_named.result × (g.K.Sink.taken c.on_named.new.sink ≡ g.K.Sink.taken c.args.sink.now)) gone c.tailoring_of.ensures.files
     (λ first. ok_err _ _ (c.in-Ok.ensures.absent first))
     (λ second. let told = c.on_named.ensures.absent second in (subst (λ (s : ReplayStatus). EndsWithoutInput files what s) (sym told.0) tt, told.1))

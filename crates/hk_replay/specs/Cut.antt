@@ -6,7 +6,7 @@ use Rattle.session_texts.specs.Truth.{IsTrueText}
 use Rattle.journaled_records.specs.OwnWorlds.{IsFrontOf, IsOwnRecord}
 use Rattle.journaled_records.specs.Replays.{HasTrueSamples}
 use Rattle.hk_replay.specs.Words.{Command, trim}
-use Rattle.hk_replay.specs.Inputs.{octets_of}
+use Rattle.program_edge.specs.Tailorings.{octets_of}
 use Rattle.hk_replay.specs.declared.status.ReplayStatus.{ReplayStatus}
 use Rattle.hk_replay.specs.declared.status.ReplayStatus.TheVariants.{Done, Usage, Tailoring, Record, ReadFault, WriteFault, NoMemory, Text}
 

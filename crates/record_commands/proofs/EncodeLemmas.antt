@@ -1,15 +1,16 @@
 -- The lines of a text, one after the other, and the packets that are put.
 use Rattle.std.proofs.Common.{arith, ◌≡◌, ◌+◌, ◌<◌, ◌≤◌, zero-le, ℕ, suc, Bool, true, false, List, [], ◌∷◌, ◌++◌, length, take, drop, map, Option, Some, None, Result, Ok, Err, refl, sym, ap, subst, ◌∙◌, append_assoc, append-nil, add-one}
-use Rattle.std.specs.Prelude.{◌==◌, IfSome, flat_map, if◌then◌else◌}
+use Rattle.std.specs.Prelude.{◌==◌, IfSome, OnOk, flat_map, if◌then◌else◌}
 use Rattle.hk_base.specs.TailoringParts.{TailoringParts}
 use Rattle.session_record.specs.Records.{entry_octets}
 use Rattle.session_record.specs.declared.entry.Entry.{Entry}
 use Rattle.session_record.specs.declared.entry.Entry.TheVariants.{Sent}
-use Rattle.record_commands.specs.Input.{IsWhole}
+use Rattle.program_edge.specs.Faults.{IsOfLines}
+use Rattle.program_edge.specs.Inputs.{IsReadOut, IsReadOutIfWhole, IsWhole}
 use Rattle.record_commands.specs.Packets.{line_packet}
 use Rattle.record_commands.specs.Encoding.{longer_first, lines_by, lines, line_length, packets_by, packets, with_packets, most_lines_octets, record_of_lines, encoded, Encodes, IsPut, IsLinePut}
-use Rattle.record_commands.specs.declared.encoding.EncodeFault.{EncodeFault}
-use Rattle.record_commands.specs.declared.encoding.EncodeFault.TheVariants.{Line, ReadFault, Memory}
+use Rattle.program_edge.specs.declared.fault.RunFault.{RunFault}
+use Rattle.program_edge.specs.declared.fault.RunFault.TheVariants.{Tailoring, Record, Line, ReadFault, WriteFault, NoMemory}
 
 pub length_within : (text : List ℕ) → line_length text ≤ length text
 length_within [] = zero-le
@@ -67,14 +68,17 @@ line_more t number line after text kept more is put =
     ∙ ap (λ ls. with_packets kept (packets t number ls)) (sym is)
 
 -- a line is refused, or memory ran out
-pub line_ends : (t : TailoringParts) (number : ℕ) (line : List ℕ) (after text : List ℕ) (kept more now : List ℕ) (fault : EncodeFault) → lines text ≡ line ∷ lines after
+pub line_ends : (t : TailoringParts) (number : ℕ) (line : List ℕ) (after text : List ℕ) (kept more now : List ℕ) (fault : RunFault) → lines text ≡ line ∷ lines after
     → IsLinePut (Err fault) number (line_packet t number line) kept more
     → IsPut (Err fault) now (with_packets kept (packets t number (lines text)))
 line_ends t number line after text kept more now (Line refused) is put =
     ap (λ ls. with_packets kept (packets t number ls)) is
     ∙ (ap (λ p. with_packets kept (packets_by number p (packets t (number + 1) (lines after)))) put.0 ∙ ap Err (sym put.1))
-line_ends t number line after text kept more now ReadFault is put = put
-line_ends t number line after text kept more now Memory is put = tt
+line_ends t number line after text kept more now ReadFault is put = absurd put
+line_ends t number line after text kept more now NoMemory is put = tt
+line_ends t number line after text kept more now (Tailoring f) is put = absurd put
+line_ends t number line after text kept more now (Record f) is put = absurd put
+line_ends t number line after text kept more now WriteFault is put = absurd put
 
 -- no line is left
 pub lines_end : (t : TailoringParts) (number : ℕ) (text kept : List ℕ) → length text ≡ 0 → with_packets kept (packets t number (lines text)) ≡ Ok kept
@@ -88,7 +92,7 @@ too_long_encoded t None whole = tt
 too_long_encoded t (Some octets) whole = ap (λ b. if b then Err 0 else record_of_lines t octets) whole
 
 -- a file that is read whole
-pub whole_encoded : (t : TailoringParts) (was : Option (List ℕ)) (text : List ℕ) (result : Result (List ℕ) EncodeFault) → IfSome was (λ octets. IsWhole most_lines_octets octets (Ok (Some text)))
+pub whole_encoded : (t : TailoringParts) (was : Option (List ℕ)) (text : List ℕ) (result : Result (List ℕ) RunFault) → IfSome was (λ octets. IsWhole most_lines_octets octets (Ok (Some text)))
     → Encodes result (record_of_lines t text) → IfSome was (λ octets. Encodes result (encoded t octets))
 unfolding encoded
 whole_encoded t None text result whole made = tt
@@ -96,3 +100,23 @@ whole_encoded t (Some octets) text result whole made =
     let is : record_of_lines t text ≡ encoded t octets =
     ap (record_of_lines t) whole.0 ∙ sym (ap (λ b. if b then Err 0 else record_of_lines t octets) whole.1) in
     subst (λ given. Encodes result given) is made
+
+-- no record is made for a line that is refused, or for a cause that stands alone
+pub encodes_causes : (result : Result (List ℕ) RunFault) (given : Result (List ℕ) ℕ) → Encodes result given → IsOfLines result
+encodes_causes (Ok octets) given made = tt
+encodes_causes (Err (Line line)) given made = tt
+encodes_causes (Err ReadFault) given made = tt
+encodes_causes (Err NoMemory) given made = tt
+encodes_causes (Err (Tailoring f)) given made = absurd made
+encodes_causes (Err (Record f)) given made = absurd made
+encodes_causes (Err WriteFault) given made = absurd made
+
+-- a file that was found whole was read to its end
+pub read_whole : (text : List ℕ) (found : Option (List ℕ)) (was now : Option (List ℕ)) → found ≡ Some text → IsReadOutIfWhole (Ok found) was now → IsReadOut was now
+read_whole text None was now is out = absurd (cc is)
+read_whole text (Some octets) was now is out = out
+
+-- what holds anyway holds on Ok
+pub on_any : {T E : Type 0} (r : Result T E) (P : Type 0) → P → OnOk r P
+on_any (Ok x) P holds = holds
+on_any (Err e) P holds = tt

@@ -15,8 +15,8 @@ use Rattle.session_record.specs.declared.entry.RecordFault.TheVariants.{BadMagic
 use Rattle.record_commands.specs.Lines.{entry_line}
 use Rattle.session_record.specs.Written.{IsWritten, IsPrefixWritten}
 use Rattle.record_commands.specs.Showing.{lines_of, lines_to_come, show_text, Shows, IsFirstLine, TakesLine}
-use Rattle.record_commands.specs.declared.showing.ShowFault.{ShowFault}
-use Rattle.record_commands.specs.declared.showing.ShowFault.TheVariants as show
+use Rattle.program_edge.specs.Faults.{fault_of_record}
+use Rattle.program_edge.specs.declared.fault.RunFault.TheVariants as run
 use Rattle.record_commands.proofs.ToComeLemmas.{none_told}
 
 -- octets without an entry in full have no line
@@ -208,7 +208,7 @@ shows_end t (Some octets) r s (Some m) (Some a) before now keeps takes =
 
 -- a fault
 pub shows_fault : (t : TailoringParts) (was : Option (List ℕ)) (r s : Reading) (rest left before now : Option (List ℕ)) (fault : RecordFault) → KeepsShown t was r rest before now
-    → TakesLine (Err fault) t r rest s left → IfSome was (λ octets. Shows (Err (show.Record fault)) t octets left before now)
+    → TakesLine (Err fault) t r rest s left → IfSome was (λ octets. Shows (Err (fault_of_record fault)) t octets left before now)
 shows_fault t None r s rest left before now fault keeps takes = tt
 shows_fault t (Some octets) r s None left before now fault keeps takes = absurd (none_told keeps.1)
 shows_fault t (Some octets) r s (Some m) None before now fault keeps takes = absurd (none_told takes.1)
@@ -245,7 +245,7 @@ all_of line (Err fault) now after is writes = absurd (cc is)
 -- a line that wasn't written whole
 pub shows_part : (t : TailoringParts) (was : Option (List ℕ)) (r s : Reading) (rest left before now after : Option (List ℕ)) (line : List ℕ) (written : Result Unit WriteFault)
     → KeepsShown t was r rest before now → TakesLine (Ok (Some line)) t r rest s left → is_err written ≡ true → Writes line written now after
-    → IfSome was (λ octets. Shows (Err show.WriteFault) t octets left before after)
+    → IfSome was (λ octets. Shows (Err run.WriteFault) t octets left before after)
 shows_part t None r s rest left before now after line written keeps takes is writes = tt
 shows_part t (Some octets) r s None left before now after line written keeps takes is writes = absurd (none_told keeps.1)
 shows_part t (Some octets) r s (Some m) None before now after line written keeps takes is writes = absurd (none_told takes.1)

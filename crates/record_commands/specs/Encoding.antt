@@ -5,8 +5,8 @@ use Rattle.session_record.specs.Records.{entry_octets, header_of, record_octets}
 use Rattle.session_record.specs.declared.entry.Entry.{Entry}
 use Rattle.session_record.specs.declared.entry.Entry.TheVariants.{Sent}
 use Rattle.record_commands.specs.Packets.{line_packet}
-use Rattle.record_commands.specs.declared.encoding.EncodeFault.{EncodeFault}
-use Rattle.record_commands.specs.declared.encoding.EncodeFault.TheVariants.{Line, ReadFault, Memory}
+use Rattle.program_edge.specs.declared.fault.RunFault.{RunFault}
+use Rattle.program_edge.specs.declared.fault.RunFault.TheVariants.{Line, ReadFault, NoMemory}
 
 -- the most octets of a file of lines
 abbrev pub most_lines_octets : ℕ
@@ -57,22 +57,23 @@ unfoldable pub encoded : TailoringParts → List ℕ → Result (List ℕ) ℕ
 encoded t file = if nat_lt most_lines_octets (length file) then Err 0 else record_of_lines t file
 
 -- what was made is what is given
-abbrev pub Encodes : Result (List ℕ) EncodeFault → Result (List ℕ) ℕ → Type 0
+abbrev pub Encodes : Result (List ℕ) RunFault → Result (List ℕ) ℕ → Type 0
 Encodes (Ok octets) given = given ≡ Ok octets
 Encodes (Err (Line refused)) given = given ≡ Err refused
 Encodes (Err ReadFault) given = ⊤
-Encodes (Err Memory) given = ⊤
+Encodes (Err NoMemory) given = ⊤
+Encodes (Err fault) given = ⊥
 
 -- what was put to octets is what is given, or a line is refused
-abbrev pub IsPut : Result Unit EncodeFault → List ℕ → Result (List ℕ) ℕ → Type 0
+abbrev pub IsPut : Result Unit RunFault → List ℕ → Result (List ℕ) ℕ → Type 0
 IsPut (Ok done) kept given = given ≡ Ok kept
 IsPut (Err (Line refused)) kept given = given ≡ Err refused
-IsPut (Err ReadFault) kept given = ⊥
-IsPut (Err Memory) kept given = ⊤
+IsPut (Err NoMemory) kept given = ⊤
+IsPut (Err fault) kept given = ⊥
 
 -- the packet of a line was put to octets, or the line with this number, from 0, is refused
-abbrev pub IsLinePut : Result Unit EncodeFault → ℕ → Option (List ℕ) → List ℕ → List ℕ → Type 0
+abbrev pub IsLinePut : Result Unit RunFault → ℕ → Option (List ℕ) → List ℕ → List ℕ → Type 0
 IsLinePut (Ok done) number packet before after = (sent : List ℕ) × (packet ≡ Some sent) × (after ≡ before ++ entry_octets (Sent sent))
 IsLinePut (Err (Line refused)) number packet before after = (packet ≡ None) × (refused ≡ number + 1)
-IsLinePut (Err ReadFault) number packet before after = ⊥
-IsLinePut (Err Memory) number packet before after = ⊤
+IsLinePut (Err NoMemory) number packet before after = ⊤
+IsLinePut (Err fault) number packet before after = ⊥

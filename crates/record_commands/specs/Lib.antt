@@ -1,7 +1,5 @@
 pub mod Trimming
 pub mod Lines
 pub mod Showing
-pub mod Input
 pub mod Packets
 pub mod Encoding
-pub mod Outcomes

@@ -7,10 +7,10 @@ use Rattle.session_record.specs.declared.header.Header.{Header}
 use Rattle.session_record.specs.declared.entry.Entry.{Entry}
 use Rattle.session_record.specs.declared.entry.RecordFault.{RecordFault}
 use Rattle.session_record.specs.declared.entry.RecordFault.TheVariants.{ReadFault, Memory}
+use Rattle.program_edge.specs.declared.fault.RunFault.{RunFault}
+use Rattle.program_edge.specs.declared.fault.RunFault.TheVariants as run
 use Rattle.record_commands.specs.Lines.{entry_line}
 use Rattle.session_record.specs.Written.{IsWritten, IsPrefixWritten}
-use Rattle.record_commands.specs.declared.showing.ShowFault.{ShowFault}
-use Rattle.record_commands.specs.declared.showing.ShowFault.TheVariants.{Record, WriteFault}
 
 -- the lines of entries
 abbrev pub lines_of : TailoringParts → List (ℕ × Entry) → List ℕ
@@ -34,12 +34,13 @@ abbrev pub IsShownAsGiven : TailoringParts → List ℕ → Option (List ℕ) �
 IsShownAsGiven t octets left before after = IfSome left (λ rest. (given : List ℕ) × (octets ≡ given ++ rest) × IsWritten before (show_text t given) after) × IsSome left
 
 -- What was written of octets, by how showing them ended: the lines of all entries; of all before the record's first fault; of those that the shelf gave in full; or a first part of them.
-abbrev pub Shows : Result Unit ShowFault → TailoringParts → List ℕ → Option (List ℕ) → Option (List ℕ) → Option (List ℕ) → Type 0
+abbrev pub Shows : Result Unit RunFault → TailoringParts → List ℕ → Option (List ℕ) → Option (List ℕ) → Option (List ℕ) → Type 0
 Shows (Ok done) t octets left before after = (record_fault octets ≡ None) × IsWritten before (show_text t octets) after
-Shows (Err WriteFault) t octets left before after = IsPrefixWritten before (show_text t octets) after
-Shows (Err (Record ReadFault)) t octets left before after = IsShownAsGiven t octets left before after × IsPrefixWritten before (show_text t octets) after
-Shows (Err (Record Memory)) t octets left before after = IsPrefixWritten before (show_text t octets) after
-Shows (Err (Record fault)) t octets left before after = (record_fault octets ≡ Some fault) × IsWritten before (show_text t octets) after
+Shows (Err run.WriteFault) t octets left before after = IsPrefixWritten before (show_text t octets) after
+Shows (Err run.ReadFault) t octets left before after = IsShownAsGiven t octets left before after × IsPrefixWritten before (show_text t octets) after
+Shows (Err run.NoMemory) t octets left before after = IsPrefixWritten before (show_text t octets) after
+Shows (Err (run.Record fault)) t octets left before after = (record_fault octets ≡ Some fault) × IsWritten before (show_text t octets) after
+Shows (Err fault) t octets left before after = ⊥
 
 -- What an answer says of what was to come, where the shelf had `was` left and has `now`: its first line, whatever follows; that no line comes any more, at the end or at a fault; or, where the shelf failed, that what it gave has no line.
 abbrev pub IsFirstLine : Result (Option (List ℕ)) RecordFault → TailoringParts → Reading → List ℕ → Reading → List ℕ → Type 0

@@ -1,6 +1,6 @@
 -- A record, entry by entry up to its end or a cut.
-use Rattle.std.specs.Prelude.{◌≡◌, ⊤, ℕ, List, [], ◌++◌, flat_map, Option, Some, None, Result, Ok, Err, IfSome, IsSome, MatchResult}
-use Rattle.session_record.specs.Records.{Entries, entry_before, entry_octets, header_octets, read_record}
+use Rattle.std.specs.Prelude.{◌≡◌, ◌⊎◌, ⊤, ℕ, List, [], ◌++◌, flat_map, Option, Some, None, Result, Ok, Err, IfSome, IsSome, MatchResult}
+use Rattle.session_record.specs.Records.{Entries, entry_before, entry_octets, fault_in, header_octets, read_record, record_fault}
 use Rattle.session_record.specs.Reading.{Reading, to_come}
 use Rattle.session_record.specs.declared.header.Header.{Header}
 use Rattle.session_record.specs.declared.entry.Entry.{Entry}
@@ -61,3 +61,27 @@ IsTrimmed given kept None rest = Ok kept ≡ given
 abbrev pub IsKept : Result (List ℕ) RecordFault → Result Unit RecordFault → List ℕ → Type 0
 IsKept given (Ok done) kept = Ok kept ≡ given
 IsKept given (Err fault) kept = FailsWith fault given
+
+-- a fault is a cut
+abbrev pub IsCut : Option RecordFault → Type 0
+IsCut (Some (Cut offset)) = ⊤
+IsCut fault = ⊥
+
+-- where the shelf told what it had left: nothing is left, or what it had is cut
+abbrev pub IsReadTo : Option RecordFault → Option (List ℕ) → Type 0
+IsReadTo fault left = (left ≡ Some []) ⊎ IsCut fault
+
+-- where the shelf told what it had left of a record: nothing is left, or the record is cut
+abbrev pub HasReadWhole : Option (List ℕ) → Option (List ℕ) → Type 0
+HasReadWhole rest left = IfSome rest (λ octets. IsReadTo (record_fault octets) left)
+
+-- What an answer says of the fault of what was to come: behind an entry it is the same one; where nothing whole comes any more, the input was read to its end, or is cut.
+abbrev pub IsReadToCut : Result (Option Entry) RecordFault → Reading → Option (List ℕ) → Reading → Option (List ℕ) → Type 0
+IsReadToCut (Ok None) before rest after left = IfSome rest (λ was. IsReadTo (fault_in (to_come before was)) left)
+IsReadToCut (Ok (Some e)) before rest after left = IfSome rest (λ was. IfSome left (λ now. fault_in (to_come after now) ≡ fault_in (to_come before was)) × IsSome left)
+IsReadToCut (Err fault) before rest after left = ⊤
+
+-- where a first entry was kept with those behind it: the input was read to its end or a cut; where there was none, it had been
+abbrev pub IsKeptTo : Option Entry → Reading → Option (List ℕ) → Option (List ℕ) → Type 0
+IsKeptTo None before rest left = left ≡ rest
+IsKeptTo (Some e) before rest left = IfSome rest (λ was. IsReadTo (fault_in (to_come before was)) left)

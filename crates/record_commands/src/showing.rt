@@ -1,46 +1,16 @@
 //! A line for each entry of a record.
 ghost use Rattle.std.specs.Prelude.{◌≡◌, ◌+◌, Result, Option, Some, None, IsErrOf, IfSome, IsSome, IfOk, OnOk};
 ghost use Rattle.hk_base.specs.Outside.{HasRisen};
+ghost use Rattle.program_edge.specs.Faults.{IsOfRecordRun};
+ghost use Rattle.program_edge.specs.Inputs.{IsReadOut, IsReadOutAtEnd};
 ghost use Rattle.session_record.specs.Reading.{Reading, reading_at_start, to_come};
 ghost use Rattle.record_commands.specs.Showing.{Shows, TakesLine, WithRoom};
 
 use crate::lines::entry_line;
-use crate::trim::PIECE_OCTETS;
-use hk_base::{Memory, Octets, Shelf, Sink, Tailoring};
+use hk_base::{Octets, Shelf, Sink, Tailoring};
+use program_edge::{PIECE_OCTETS, RunFault};
 use session_record::{RecordFault, RecordReader, write_all};
 use std::alloc::Global;
-
-/// Why not every entry of a record was shown.
-#[derive(Clone, Copy, Debug, PartialEq, Eq, Drop)]
-pub enum ShowFault {
-    /// A fault of the record, or of reading it.
-    Record(RecordFault),
-    /// The sink failed.
-    WriteFault,
-}
-
-impl From<RecordFault> for ShowFault {
-    ghost use Rattle.std.specs.Prelude.{◌≡◌};
-    ghost use Rattle.record_commands.specs.declared.showing.ShowFault.TheVariants.{Record};
-
-    ghost from_gives = { λ fault given. given ≡ Record fault };
-
-    fn from(fault: RecordFault) -> ShowFault {
-        ShowFault::Record(fault)
-    }
-}
-
-impl From<Memory> for ShowFault {
-    ghost use Rattle.std.specs.Prelude.{◌≡◌};
-    ghost use Rattle.session_record.specs.declared.entry.RecordFault.TheVariants.{Memory};
-    ghost use Rattle.record_commands.specs.declared.showing.ShowFault.TheVariants.{Record};
-
-    ghost from_gives = { λ _ given. given ≡ Record Memory };
-
-    fn from(_: Memory) -> ShowFault {
-        ShowFault::Record(RecordFault::Memory)
-    }
-}
 
 /// Writes a line for each entry of the record that the shelf has selected, before the next entry is read. It takes every
 /// record: known start or not, short or long, with packets of any kind.
@@ -49,10 +19,12 @@ pub fn show<F: Shelf, K: Sink>(
     tailoring: &Tailoring,
     shelf: &mut F,
     sink: &mut K,
-) -> Result<(), ShowFault>
+) -> Result<(), RunFault>
     ensures shown { IfSome (F.rest shelf.old) (λ octets. Shows result tailoring.now octets (F.rest shelf.new) (K.taken sink.old) (K.taken sink.new)) }
-    ensures read_fault { IsErrOf result (ShowFault.Record RecordFault.ReadFault) → HasRisen (F.faults shelf.old) (F.faults shelf.new) }
-    ensures write_fault { IsErrOf result ShowFault.WriteFault → HasRisen (K.faults sink.old) (K.faults sink.new) }
+    ensures end { OnOk result (IsReadOut (F.rest shelf.old) (F.rest shelf.new)) }
+    ensures causes { IsOfRecordRun result }
+    ensures read_fault { IsErrOf result RunFault.ReadFault → HasRisen (F.faults shelf.old) (F.faults shelf.new) }
+    ensures write_fault { IsErrOf result RunFault.WriteFault → HasRisen (K.faults sink.old) (K.faults sink.new) }
     ensures sound { F.is_sound shelf.old → IsSome (F.rest shelf.old) → F.faults shelf.new ≡ F.faults shelf.old }
     ensures room { WithRoom tailoring.now (F.rest shelf.old) (K.room sink.old) (K.faults sink.new ≡ K.faults sink.old) }
 {
@@ -67,17 +39,19 @@ fn show_entries<F: Shelf, K: Sink>(
     reader: &mut RecordReader,
     shelf: &mut F,
     sink: &mut K,
-) -> Result<(), ShowFault>
+) -> Result<(), RunFault>
     requires { reader.old ≡ reading_at_start }
     ensures shown { IfSome (F.rest shelf.old) (λ octets. Shows result tailoring.now octets (F.rest shelf.new) (K.taken sink.old) (K.taken sink.new)) }
-    ensures read_fault { IsErrOf result (ShowFault.Record RecordFault.ReadFault) → HasRisen (F.faults shelf.old) (F.faults shelf.new) }
-    ensures write_fault { IsErrOf result ShowFault.WriteFault → HasRisen (K.faults sink.old) (K.faults sink.new) }
+    ensures end { OnOk result (IsReadOut (F.rest shelf.old) (F.rest shelf.new)) }
+    ensures causes { IsOfRecordRun result }
+    ensures read_fault { IsErrOf result RunFault.ReadFault → HasRisen (F.faults shelf.old) (F.faults shelf.new) }
+    ensures write_fault { IsErrOf result RunFault.WriteFault → HasRisen (K.faults sink.old) (K.faults sink.new) }
     ensures sound { F.is_sound shelf.old → IsSome (F.rest shelf.old) → F.faults shelf.new ≡ F.faults shelf.old }
     ensures room { WithRoom tailoring.now (F.rest shelf.old) (K.room sink.old) (K.faults sink.new ≡ K.faults sink.old) }
 {
     while let Some(line) = next_line(alloc, tailoring, reader, shelf)? {
         if write_all(sink, line.as_slice()).is_err() {
-            return Err(ShowFault::WriteFault);
+            return Err(RunFault::WriteFault);
         }
     }
     Ok(())
@@ -91,6 +65,7 @@ fn next_line<F: Shelf>(
     shelf: &mut F,
 ) -> Result<Option<Octets>, RecordFault>
     ensures takes { TakesLine result tailoring.now reader.old (F.rest shelf.old) reader.new (F.rest shelf.new) }
+    ensures end { IsReadOutAtEnd result (F.rest shelf.old) (F.rest shelf.new) }
     ensures fewer { IfOk result (λ next. IfSome next (λ line. reader.old.room ≡ reader.new.room + 1)) }
     ensures failed { IsErrOf result RecordFault.ReadFault → HasRisen (F.faults shelf.old) (F.faults shelf.new) }
     ensures quiet { OnOk result (F.faults shelf.new ≡ F.faults shelf.old) }

@@ -1,20 +1,30 @@
 //! A record without what a recorder that was cut off left behind its last whole entry.
-ghost use Rattle.std.specs.Prelude.{◌≡◌, ◌+◌, ◌≤◌, ◌^◌, [], ◌++◌, length, Result, ℕ, List, IsErrOf, IfSome, IsSome, IfOk, IfErr, OnOk};
+ghost use Rattle.std.specs.Prelude.{◌≡◌, ◌+◌, ◌≤◌, ◌^◌, [], ◌++◌, length, Result, Some, ℕ, List, IsErrOf, IfSome, IsSome, IfOk, IfErr, OnOk};
 ghost use Rattle.hk_base.specs.Outside.{HasRisen};
+ghost use Rattle.session_record.specs.Records as records;
 ghost use Rattle.session_record.specs.Records.{held_octets, entry_octets, header_octets};
 ghost use Rattle.session_record.specs.Reading.{reading_at_start, to_come};
-ghost use Rattle.record_commands.specs.Trimming.{trimmed_octets, ReadsAs, TakesWhole, IsTrimmed, IsKept};
+ghost use Rattle.record_commands.specs.Trimming.{trimmed_octets, HasReadWhole, IsKeptTo, IsReadToCut, ReadsAs, TakesWhole, IsTrimmed, IsKept};
 
-use crate::draft::Draft;
 use hk_base::Shelf;
-use session_record::{Entry, RecordFault, RecordReader, RecordWriter};
+use program_edge::{Draft, PIECE_OCTETS};
+use session_record::{Entry, RecordFault, RecordReader};
 use std::alloc::Global;
 
-/// The most octets that are asked of the shelf at a time.
-pub const PIECE_OCTETS: u32 = 65_536;
-
-/// The header and the whole entries of the record that the shelf has selected.
+/// The header and the whole entries of the record that the shelf has selected: the longest first part of it that is a record.
 pub fn trimmed<F: Shelf>(alloc: Global, shelf: &mut F) -> Result<Vec<u8>, RecordFault>
+    ensures longest { IfSome (F.rest shelf.old) (λ octets. IfOk result (λ out. records.trimmed octets ≡ Some out.items)) }
+    ensures end { OnOk result (HasReadWhole (F.rest shelf.old) (F.rest shelf.new)) }
+    ensures outcome { IfSome (F.rest shelf.old) (λ octets. ReadsAs (λ out. out.items) result (trimmed_octets octets)) }
+    ensures failed { IsErrOf result RecordFault.ReadFault → HasRisen (F.faults shelf.old) (F.faults shelf.new) }
+    ensures sound { F.is_sound shelf.old → IsSome (F.rest shelf.old) → F.faults shelf.new ≡ F.faults shelf.old }
+{
+    whole_entries(alloc, shelf)
+}
+
+/// The same, by what is kept of it.
+fn whole_entries<F: Shelf>(alloc: Global, shelf: &mut F) -> Result<Vec<u8>, RecordFault>
+    ensures end { OnOk result (HasReadWhole (F.rest shelf.old) (F.rest shelf.new)) }
     ensures outcome { IfSome (F.rest shelf.old) (λ octets. ReadsAs (λ out. out.items) result (trimmed_octets octets)) }
     ensures failed { IsErrOf result RecordFault.ReadFault → HasRisen (F.faults shelf.old) (F.faults shelf.new) }
     ensures sound { F.is_sound shelf.old → IsSome (F.rest shelf.old) → F.faults shelf.new ≡ F.faults shelf.old }
@@ -35,6 +45,7 @@ fn trim_into<F: Shelf>(
 ) -> Result<(), RecordFault>
     requires start { reader.old ≡ reading_at_start }
     requires empty { draft.old.octets.items ≡ [] }
+    ensures end { OnOk result (HasReadWhole (F.rest shelf.old) (F.rest shelf.new)) }
     ensures kept { IfSome (F.rest shelf.old) (λ octets. IsKept (trimmed_octets octets) result draft.new.octets.items) }
     ensures failed { IsErrOf result RecordFault.ReadFault → HasRisen (F.faults shelf.old) (F.faults shelf.new) }
     ensures sound { F.is_sound shelf.old → IsSome (F.rest shelf.old) → F.faults shelf.new ≡ F.faults shelf.old }
@@ -52,10 +63,8 @@ fn begin(draft: &mut Draft, reader: &RecordReader) -> Result<(), RecordFault>
 {
     let known = reader.known_start().unwrap_or(false);
     let long = reader.long_session().unwrap_or(false);
-    match RecordWriter::begin(draft, known, long) {
-        Ok(()) => Ok(()),
-        Err(_) => Err(RecordFault::Memory),
-    }
+    draft.begin(known, long)?;
+    Ok(())
 }
 
 /// Keeps this entry, if there is one, and the whole entries after it.
@@ -66,6 +75,7 @@ fn keep_whole<F: Shelf>(
     shelf: &mut F,
 ) -> Result<(), RecordFault>
     requires { IfSome first (λ entry. length (held_octets entry) ≤ 2 ^ 31) }
+    ensures end { OnOk result (IsKeptTo first reader.old (F.rest shelf.old) (F.rest shelf.new)) }
     ensures kept { IfSome (F.rest shelf.old) (λ left. (given : Result (List ℕ) RecordFault)
         → IsTrimmed given draft.old.octets.items first (to_come reader.old left) → IsKept given result draft.new.octets.items) }
     ensures failed { IsErrOf result RecordFault.ReadFault → HasRisen (F.faults shelf.old) (F.faults shelf.new) }
@@ -73,22 +83,10 @@ fn keep_whole<F: Shelf>(
 {
     let mut next = first;
     while let Some(entry) = next {
-        put(draft, entry)?;
+        draft.put(&entry)?;
         next = next_whole(reader, shelf)?;
     }
     Ok(())
-}
-
-/// Puts an entry to what is kept.
-fn put(draft: &mut Draft, entry: Entry) -> Result<(), RecordFault>
-    requires { length (held_octets entry) ≤ 2 ^ 31 }
-    ensures ok { OnOk result (draft.new.octets.items ≡ draft.old.octets.items ++ entry_octets entry) }
-    ensures err { IfErr result (λ fault. fault ≡ RecordFault.Memory) }
-{
-    match RecordWriter::put(draft, &entry) {
-        Ok(()) => Ok(()),
-        Err(_) => Err(RecordFault::Memory),
-    }
 }
 
 /// The next whole entry, and none at the end or at a cut.
@@ -97,6 +95,7 @@ fn next_whole<F: Shelf>(
     shelf: &mut F,
 ) -> Result<Option<Entry>, RecordFault>
     ensures takes { TakesWhole result reader.old (F.rest shelf.old) reader.new (F.rest shelf.new) }
+    ensures end { IsReadToCut result reader.old (F.rest shelf.old) reader.new (F.rest shelf.new) }
     ensures header { OnOk result (IsSome reader.new.header) }
     ensures same_header { IfSome reader.old.header (λ header. reader.new.header ≡ Some header) }
     ensures bounded { IfOk result (λ next. IfSome next (λ entry. (length (held_octets entry) ≤ 2 ^ 31) × (reader.old.room ≡ reader.new.room + 1))) }

@@ -6,3 +6,4 @@ pub mod WritingLemmas
 pub mod RecordLemmas
 pub mod TrimLemmas
 pub mod FrontLemmas
+pub mod WithinLemmas

@@ -21,7 +21,7 @@ pub length-entry : (e : Entry) → length (entry_octets e) ≡ entry_size e
 length-entry e = let sizes = length-append (octets_of 4 (length (held_octets e))) (held_octets e) in omega arith
 
 -- an entry of a kind holds what it is made of
-holds : (kind : ℕ) (make : List ℕ → Entry) → entry_of_kind kind ≡ Some make → (held : List ℕ) → held_octets (make held) ≡ held
+pub holds : (kind : ℕ) (make : List ℕ → Entry) → entry_of_kind kind ≡ Some make → (held : List ℕ) → held_octets (make held) ≡ held
 holds kind make is held = by_sent (kind == 0x53) (kind == 0x47) (kind == 0x4a) is
   where
     by_sent : (a b c : Bool) → (if a then Some Sent else if b then Some Got else if c then Some Line else None) ≡ Some make → held_octets (make held) ≡ held

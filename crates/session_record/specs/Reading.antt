@@ -1,5 +1,5 @@
 -- A reader in the middle of a record: what it holds, and what is still to come.
-use Rattle.std.specs.Prelude.{◌≡◌, ℕ, ◌+◌, ◌≤◌, ⊤, List, [], ◌++◌, length, drop, Bool, true, false, not, nat_le, Option, Some, None, Result, Ok, Err, IsSome, IfSome, MatchResult}
+use Rattle.std.specs.Prelude.{◌≡◌, ℕ, ◌+◌, ◌<◌, ◌≤◌, ⊤, List, [], ◌++◌, length, drop, Bool, true, false, not, nat_le, Option, Some, None, Result, Ok, Err, IsSome, IfSome, IfOk, MatchResult}
 use Rattle.session_record.specs.Faults.{is_cut, lasting}
 use Rattle.std.specs.Option.{option_map, ForSome}
 use Rattle.hk_base.specs.Outside.{HasRisen}
@@ -9,17 +9,22 @@ use Rattle.session_record.specs.declared.entry.RecordFault.{RecordFault}
 use Rattle.session_record.specs.declared.entry.RecordFault.TheVariants.{BadMagic, ReadFault, Memory}
 
 -- Where a reader stands: the header, once it was read, the offset of the next entry, how many more entries may come,
--- the octets that were read and not given yet, and the fault of the octets, once one was answered.
+-- the octets that were read and not given yet, the fault of the octets, once one was answered, and how many octets are asked of the shelf at a time.
 pub record Reading : Type 0 where
   pub header : Option Header
   pub offset : ℕ
   pub room : ℕ
   pub held : List ℕ
   pub fault : Option RecordFault
+  pub most : ℕ
 
--- a reader before the first octet
+-- a reader before the first octet, which takes so many octets at a time
+abbrev pub reading_by : ℕ → Reading
+reading_by most = record { header = None; offset = 8; room = most_entries; held = []; fault = None; most = most }
+
+-- the same with pieces of 64 KiB
 abbrev pub reading_at_start : Reading
-reading_at_start = record { header = None; offset = 8; room = most_entries; held = []; fault = None }
+reading_at_start = reading_by 65536
 
 -- nothing more, up to a fault if there is one
 abbrev pub no_entries : Option RecordFault → Entries
@@ -129,3 +134,39 @@ KeepsAhead before after = IfSome before (λ octets. after ≡ Some octets)
 -- where a read gave nothing and the shelf told what it had left: it has nothing left
 abbrev pub IsAtEnd : ℕ → Option (List ℕ) → Option (List ℕ) → Type 0
 IsAtEnd count before after = count ≡ 0 → IfSome before (λ rest. after ≡ Some [])
+
+-- at most so many octets came to the end of those that are held
+abbrev pub Grows : ℕ → List ℕ → List ℕ → Type 0
+Grows most held grown = (last : List ℕ) × (grown ≡ held ++ last) × (length last ≤ most)
+
+-- how many octets of the record a reader took of the shelf, where its first entry begins at an offset: those before that entry, and those that are held
+abbrev pub octets_taken_by : Option Header → ℕ → List ℕ → ℕ
+octets_taken_by None offset held = length held
+octets_taken_by (Some h) offset held = offset + length held
+
+-- how many octets of the record a reader took of the shelf: those up to the next entry, and those that it holds
+abbrev pub octets_taken : Reading → ℕ
+octets_taken r = octets_taken_by r.header r.offset r.held
+
+-- the most octets that a reader takes of the shelf: those of the longest record, the kind and length of one entry more, and one piece
+abbrev pub most_taken : Reading → ℕ
+most_taken r = most_octets + 5 + r.most
+
+-- Not too much was taken in all, and less than a piece is held behind what comes next. Before the header was read the first entry is at 8.
+pub record IsWithin (r : Reading) : Type 0 where
+  pub start : r.header ≡ None → r.offset ≡ 8
+  pub all : octets_taken r < most_taken r
+  pub headed : r.header ≡ None → length r.held < 8 + r.most
+  pub ahead : (e : Entry) → IsSome r.header → next_entry r.room r.offset r.held ≡ Ok (Some e) → length r.held < entry_size e + r.most
+
+-- where the shelf told what it had left: what it gave is what the reader took
+abbrev pub AreTaken : Reading → Option (List ℕ) → Reading → Option (List ℕ) → Type 0
+AreTaken before rest after left = IfSome rest (λ was. IfSome left (λ now. length was + octets_taken before ≡ length now + octets_taken after) × IsSome left)
+
+-- not too much was taken in all
+abbrev pub TakesFew : Reading → Reading → Type 0
+TakesFew before after = (octets_taken after < most_taken before) × (after.most ≡ before.most)
+
+-- behind an entry that was given less than a piece is held
+abbrev pub HoldsLess : Result (Option (ℕ × Entry)) RecordFault → Reading → Type 0
+HoldsLess result after = IfOk result (λ next. IfSome next (λ x. length after.held < after.most))

@@ -2,7 +2,7 @@
 ghost use Rattle.std.specs.Prelude.{◌≡◌, ◌++◌, ◌+◌, ◌<◌, ◌≤◌, [], drop, take, length, IfOk, IfErr, IsSome, IsErrOf};
 ghost use Rattle.hk_base.specs.Outside.{Reads};
 ghost use Rattle.session_record.specs.Faults.{IsReadError};
-ghost use Rattle.session_record.specs.Reading.{ahead, Gains, KeepsAhead, ReadCounts, IsAtEnd};
+ghost use Rattle.session_record.specs.Reading.{ahead, Gains, Grows, KeepsAhead, ReadCounts, IsAtEnd};
 
 use crate::entry::RecordFault;
 use hk_base::{Memory, Shelf};
@@ -12,8 +12,6 @@ use std::marker::Model;
 /// Octets in the order in which the shelf gave them. Contracts see the list of them.
 #[derive(Drop)]
 pub(crate) struct Held {
-    /// The buffer of one read.
-    piece: Vec<u8>,
     /// What was read, with some octets in front that were given already.
     octets: Vec<u8>,
     /// How many octets in front were given already.
@@ -21,7 +19,7 @@ pub(crate) struct Held {
 }
 
 impl Model for Held {
-    ghost use Rattle.std.specs.Prelude.{ℕ, List, drop, vec_len, ◌≤◌, ◌<◌};
+    ghost use Rattle.std.specs.Prelude.{ℕ, List, drop, vec_len, ◌≤◌};
     ghost use Rattle.std.specs.Coded.{coded_list, coded_ℕ};
 
     ghost Value = { List ℕ };
@@ -30,22 +28,18 @@ impl Model for Held {
 
     ghost view = { λ held. drop held.given held.octets.items };
 
-    ghost invariant = { λ held. (0 < vec_len held.piece) × (held.given ≤ vec_len held.octets) };
+    ghost invariant = { λ held. held.given ≤ vec_len held.octets };
 }
 
 impl Held {
-    /// Nothing, with a buffer of so many octets.
-    pub fn new(alloc: Global, most: u32) -> Result<Held, Memory>
-        requires { 0 < most }
-        ensures { IfOk result (λ held. held ≡ []) }
+    /// Nothing.
+    pub fn new(alloc: Global) -> Held
+        ensures { result ≡ [] }
     {
-        let piece = vec![in alloc; 0u8; most as usize]?;
-        let octets = Vec::new(alloc);
-        Ok(Held {
-            piece,
-            octets,
+        Held {
+            octets: Vec::new(alloc),
             given: 0,
-        })
+        }
     }
 
     pub fn as_slice(&self) -> &[u8]
@@ -74,10 +68,16 @@ impl Held {
         }
     }
 
-    /// Reads one piece more, and answers how many octets it has: none at the end.
-    pub fn read_more<F: Shelf>(&mut self, shelf: &mut F) -> Result<usize, RecordFault>
+    /// Reads one piece more by way of a buffer, and answers how many octets it has: none at the end.
+    pub fn read_more<F: Shelf>(
+        &mut self,
+        piece: &mut [u8],
+        shelf: &mut F,
+    ) -> Result<usize, RecordFault>
+        requires { 0 < length piece.old }
         ensures count { ReadCounts result (F.faults shelf.old) (F.faults shelf.new) }
         ensures more { IfOk result (λ count. length self.new ≡ length self.old + count) }
+        ensures grows { IfOk result (λ count. Grows (length piece.old) self.old self.new) }
         ensures ahead { KeepsAhead (ahead self.old (F.rest shelf.old)) (ahead self.new (F.rest shelf.new)) }
         ensures gains { Gains self.old (F.rest shelf.old) self.new (F.rest shelf.new) }
         ensures end { IfOk result (λ count. IsAtEnd count (F.rest shelf.old) (F.rest shelf.new)) }
@@ -87,7 +87,7 @@ impl Held {
         ensures stays_sound { F.is_sound shelf.old → F.is_sound shelf.new }
     {
         self.compact();
-        let count = append_piece(&mut self.octets, &mut self.piece, shelf)?;
+        let count = append_piece(&mut self.octets, piece, shelf)?;
         Ok(count)
     }
 }

@@ -1,10 +1,10 @@
 //! Reading a record piece by piece.
-ghost use Rattle.std.specs.Prelude.{◌≡◌, ◌<◌, false, None, Some, IfOk, IfErr, OnOk, IfSome, IsSome, IsTrue, IsErrOf};
+ghost use Rattle.std.specs.Prelude.{◌≡◌, ◌<◌, ◌+◌, length, false, None, Some, IfOk, IfErr, OnOk, IfSome, IsSome, IsTrue, IsErrOf};
 ghost use Rattle.std.specs.Option.{option_map};
-ghost use Rattle.session_record.specs.Reading.{reading_at_start, Answers, GoesOn, Gains, Moves, HasHeader, ReadCounts, is_settled, lasting_fault, ahead, KeepsAhead};
+ghost use Rattle.session_record.specs.Reading.{reading_by, Answers, GoesOn, Gains, AreTaken, octets_taken, TakesFew, HoldsLess, Moves, HasHeader, ReadCounts, is_settled, lasting_fault, ahead, KeepsAhead};
 ghost use Rattle.session_record.specs.Faults.{IsReadError};
 ghost use Rattle.session_record.specs.Records.{next_entry};
-ghost use Rattle.session_record.specs.Steps.{is_ready, HeldAlone, HeaderTaken, EntryTaken, IsEnough};
+ghost use Rattle.session_record.specs.Steps.{is_ready, HeldAlone, HeaderTaken, EntryTaken, IsEnough, HasRoomFor, behind};
 
 use crate::entry::{Entry, RecordFault};
 use crate::found::{FRONT_OCTETS, find_entry};
@@ -22,6 +22,8 @@ const MOST_ENTRIES: u32 = 1_000_000;
 #[derive(Drop)]
 pub struct RecordReader {
     alloc: Global,
+    /// The buffer of one read.
+    piece: Vec<u8>,
     held: Held,
     header: Option<Header>,
     offset: u64,
@@ -30,27 +32,29 @@ pub struct RecordReader {
 }
 
 impl Model for RecordReader {
-    ghost use Rattle.std.specs.Prelude.{◌≡◌, ◌≤◌, IfSome, Some};
+    ghost use Rattle.std.specs.Prelude.{◌≡◌, ◌≤◌, ◌<◌, vec_len};
     ghost use Rattle.session_record.specs.Records.{most_octets};
-    ghost use Rattle.session_record.specs.Reading.{Reading, Lasts};
+    ghost use Rattle.session_record.specs.Reading.{Reading, Lasts, IsWithin};
 
     ghost Value = { Reading };
 
-    ghost view = { λ r. record { header = r.header; offset = r.offset; room = r.room; held = r.held; fault = r.fault } };
+    ghost view = { λ r. record { header = r.header; offset = r.offset; room = r.room; held = r.held; fault = r.fault; most = vec_len r.piece } };
 
-    ghost invariant = { λ r. (r.offset ≤ most_octets) × Lasts r.header r.fault };
+    ghost invariant = { λ r. (r.offset ≤ most_octets) × Lasts r.header r.fault × (0 < vec_len r.piece)
+        × IsWithin (record { header = r.header; offset = r.offset; room = r.room; held = r.held; fault = r.fault; most = vec_len r.piece }) };
 }
 
 impl RecordReader {
     /// A reader before the first octet, which takes up to `most` octets from the shelf at a time.
     pub fn new(alloc: Global, most: u32) -> Result<RecordReader, Memory>
         requires { 0 < most }
-        ensures { IfOk result (λ reader. reader ≡ reading_at_start) }
+        ensures { IfOk result (λ reader. reader ≡ reading_by most) }
     {
-        let held = Held::new(alloc, most)?;
+        let piece = vec![in alloc; 0u8; most as usize]?;
         Ok(RecordReader {
             alloc,
-            held,
+            piece,
+            held: Held::new(alloc),
             header: None,
             offset: HEADER_OCTETS as u64,
             room: MOST_ENTRIES,
@@ -84,6 +88,11 @@ impl RecordReader {
         ensures header { HasHeader result self.new.header }
         ensures same_header { IfSome self.old.header (λ header. self.new.header ≡ Some header) }
         ensures moves { Moves result self.old self.new }
+        // What the shelf gave was taken by the reader: behind an entry that is given less than a piece, and never more than a
+        // piece behind the longest record.
+        ensures taken { AreTaken self.old (F.rest shelf.old) self.new (F.rest shelf.new) }
+        ensures few { TakesFew self.old self.new }
+        ensures ahead { HoldsLess result self.new }
         // A fault of the octets is answered from then on, and the other two aren't.
         ensures again { IfSome self.old.fault (λ fault. (result ≡ Err fault) × (self.new ≡ self.old)) }
         ensures fault { self.new.fault ≡ lasting_fault result }
@@ -111,6 +120,9 @@ impl RecordReader {
         ensures header { HasHeader result self.new.header }
         ensures same_header { IfSome self.old.header (λ header. self.new.header ≡ Some header) }
         ensures moves { Moves result self.old self.new }
+        ensures taken { AreTaken self.old (F.rest shelf.old) self.new (F.rest shelf.new) }
+        ensures few { TakesFew self.old self.new }
+        ensures ahead { HoldsLess result self.new }
         ensures fault { self.new.fault ≡ None }
         ensures settled { IsTrue (is_settled self.old) → shelf.new ≡ shelf.old }
         ensures unsettled { IsErrOf result RecordFault.ReadFault → is_settled self.new ≡ false }
@@ -132,6 +144,7 @@ impl RecordReader {
         ensures gains { Gains self.old.held (F.rest shelf.old) self.new.held (F.rest shelf.new) }
         ensures enough { OnOk result (IsEnough self.new (F.rest shelf.old) (F.rest shelf.new)) }
         ensures err { IfErr result (λ fault. IsReadError fault × (is_ready self.new ≡ false)) }
+        ensures few { TakesFew self.old self.new }
         ensures ready { IsTrue (is_ready self.old) → (self.new ≡ self.old) × (shelf.new ≡ shelf.old) }
         ensures count { ReadCounts result (F.faults shelf.old) (F.faults shelf.new) }
         ensures files { F.files shelf.new ≡ F.files shelf.old }
@@ -139,7 +152,7 @@ impl RecordReader {
         ensures stays_sound { F.is_sound shelf.old → F.is_sound shelf.new }
     {
         while !self.is_ready() {
-            if self.held.read_more(shelf)? == 0 {
+            if self.held.read_more(&mut self.piece, shelf)? == 0 {
                 return Ok(());
             }
         }
@@ -164,7 +177,9 @@ impl RecordReader {
     /// Takes the header off what is held, unless it was taken before.
     fn take_header(&mut self) -> Result<(), RecordFault>
         requires { self.old.fault ≡ None }
-        ensures { HeaderTaken result self.old self.new }
+        ensures header { HeaderTaken result self.old self.new }
+        ensures same { octets_taken self.new ≡ octets_taken self.old }
+        ensures few { TakesFew self.old self.new }
     {
         if self.header.is_some() {
             return Ok(());
@@ -179,7 +194,11 @@ impl RecordReader {
 
     /// Takes the next entry off what is held.
     fn take_entry(&mut self) -> Result<Option<(u64, Entry)>, RecordFault>
-        ensures { EntryTaken result (next_entry self.old.room self.old.offset self.old.held) self.old self.new }
+        requires { IsSome self.old.header }
+        ensures taken { EntryTaken result (next_entry self.old.room self.old.offset self.old.held) self.old self.new }
+        ensures same { octets_taken self.new ≡ octets_taken self.old }
+        ensures few { TakesFew self.old self.new }
+        ensures ahead { HoldsLess result self.new }
     {
         let Some(found) = find_entry(self.held.as_slice(), self.room, self.offset)? else {
             return Ok(None);
@@ -187,10 +206,20 @@ impl RecordReader {
         let entry = found.to_entry(self.alloc)?;
         let size = FRONT_OCTETS + found.held.len();
         let offset = self.offset;
+        self.skip_entry(size);
+        Ok(Some((offset, entry)))
+    }
+
+    /// Goes behind an entry of so many octets, which is held in full.
+    fn skip_entry(&mut self, size: usize)
+        requires header { IsSome self.old.header }
+        requires room { HasRoomFor size self.old.room self.old.offset (length self.old.held) }
+        requires near { length self.old.held < size + self.old.most }
+        ensures { self.new ≡ behind self.old size }
+    {
         self.held.skip(size);
         self.offset += size as u64;
         self.room -= 1;
-        Ok(Some((offset, entry)))
     }
 }
 

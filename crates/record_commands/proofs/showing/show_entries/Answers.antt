@@ -1,8 +1,13 @@
-use Rattle.std.proofs.Common.{List, ℕ, Option, Some, Ok, refl, rules, sym, ap, subst, ◌∙◌}
+use Rattle.std.proofs.Common.{List, ℕ, Option, Some, None, Ok, refl, rules, sym, ap, subst, ◌∙◌}
 use Rattle.std.proofs.lemmas.Result.{err_from_is_err_and}
+use Rattle.hk_base.specs.Outside.{HasRisen}
 use Rattle.session_record.specs.Reading.{Reading}
+use Rattle.session_record.specs.declared.entry.RecordFault.{RecordFault}
+use Rattle.program_edge.specs.Inputs.{IsReadOutAtEnd}
+use Rattle.program_edge.proofs.FaultLemmas.{of_record_run, read_err, same_err, unwritten}
+use Rattle.program_edge.proofs.ReaderLemmas.{read_out_since}
 use Rattle.record_commands.specs.Showing.{TakesLine}
-use Rattle.record_commands.proofs.ShowLemmas.{KeepsShown, KeepsRoom, shows_start, room_start, shows_fault, shows_part, room_fails, shows_next, room_next, all_of}
+use Rattle.record_commands.proofs.ShowLemmas.{KeepsShown, KeepsRoom, shows_start, room_start, shows_fault, shows_part, room_fails, shows_next, room_next, all_of, still_read}
 use Rattle.record_commands.proofs.showing.show_entries.Goals as goal
 
 pub loop-line-init : goal.loop-line-init
@@ -53,3 +58,26 @@ loop-line-preserved g c =
       sink_faults = search rules;
       sound = search rules;
     }
+
+pub returns-in_err-line-clause-causes : goal.returns-in_err-line-clause-causes
+returns-in_err-line-clause-causes g c =
+    let p = err_from_is_err_and c.from_residual.result c.from_residual.ensures.1 in
+    rw (p.1, p.2) (of_record_run c.in_err-line.field-0.0)
+
+pub returns-in_err-line-clause-read_fault : goal.returns-in_err-line-clause-read_fault
+returns-in_err-line-clause-read_fault g c =
+    let p = err_from_is_err_and c.from_residual.result c.from_residual.ensures.1 in
+    rw (p.1, p.2) (λ is. subst (λ (n : ℕ). HasRisen n (g.F.Shelf.faults c.next_line.new.shelf)) c.loop-line.invariant.faults (c.in_err-line.ensures.failed (read_err c.in_err-line.field-0.0 is)))
+
+pub returns-in_err-line-clause-write_fault : goal.returns-in_err-line-clause-write_fault
+returns-in_err-line-clause-write_fault g c =
+    let p = err_from_is_err_and c.from_residual.result c.from_residual.ensures.1 in
+    rw (p.1, p.2) (λ is. absurd (unwritten c.in_err-line.field-0.0 (same_err _ _ is)))
+
+pub returns-clause-end : goal.returns-clause-end
+returns-clause-end g c =
+    let rest = g.F.Shelf.rest c.loop-line.shelf in
+    let left = g.F.Shelf.rest c.next_line.new.shelf in
+    read_out_since (g.F.Shelf.rest c.args.shelf.now) rest left
+    (still_read c.args.tailoring.now (g.F.Shelf.rest c.args.shelf.now) c.loop-line.reader rest (g.K.Sink.taken c.args.sink.now) (g.K.Sink.taken c.loop-line.sink) c.loop-line.invariant.shown)
+    (subst (λ (o : Option (List ℕ)). IsReadOutAtEnd {E = RecordFault} (Ok o) rest left) c.in_default.is c.in_ok-line.ensures.end)

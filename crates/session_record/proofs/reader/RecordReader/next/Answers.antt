@@ -1,5 +1,7 @@
-use Rattle.std.proofs.Common.{◌∙◌, Err, ap, sym, subst}
-use Rattle.session_record.specs.Reading.{Reading, HasHeader}
+use Rattle.std.proofs.Common.{◌∙◌, Err, refl, ap, sym, subst}
+use Rattle.std.specs.Prelude.{Result, Option, ℕ}
+use Rattle.session_record.specs.Reading.{Reading, HasHeader, IsWithin, TakesFew, HoldsLess, octets_taken}
+use Rattle.session_record.proofs.WithinLemmas.{taken-then, taken-same, few-self}
 use Rattle.session_record.proofs.ReadingLemmas.{again-answers, faulted-answers, lasting-counts, lasting-apart}
 use Rattle.session_record.proofs.OnwardLemmas.{again-onward, faulted-onward}
 use Rattle.session_record.proofs.reader.RecordReader.next.Goals as goal
@@ -38,3 +40,26 @@ returns-clause-goes_on g c =
     ∙ ap (λ f. record c.read_next-answer.new.self { fault = f }) c.lasting_fault-self-inside.ensures in
     faulted-onward c.args.self.now c.read_next-answer.new.self _ (g.F.Shelf.rest c.args.shelf.now) (g.F.Shelf.rest c.read_next-answer.new.shelf) result after
     c.read_next-answer.ensures.fault c.read_next-answer.ensures.goes_on
+
+pub returns-in-Some-clause-taken : goal.returns-in-Some-clause-taken
+returns-in-Some-clause-taken g c = taken-same c.args.self.now c.args.self.now (g.F.Shelf.rest c.args.shelf.now) refl
+
+pub returns-in-Some-clause-few : goal.returns-in-Some-clause-few
+returns-in-Some-clause-few g c = few-self c.args.self.now (subst (λ (r : Reading). IsWithin r) c.self.view_is c.self.invariant.3)
+
+pub returns-clause-taken : goal.returns-clause-taken
+returns-clause-taken g c =
+    let rest = g.F.Shelf.rest in
+    let after = ap (λ (s : Reading). record s { fault = c.lasting_fault-self-inside.result }) c.self-2.view_is in
+    taken-then c.args.self.now c.read_next-answer.new.self _ (rest c.args.shelf.now) (rest c.read_next-answer.new.shelf) (rest c.read_next-answer.new.shelf)
+    c.read_next-answer.ensures.taken (taken-same c.read_next-answer.new.self _ (rest c.read_next-answer.new.shelf) (ap octets_taken after))
+
+pub returns-clause-few : goal.returns-clause-few
+returns-clause-few g c =
+    let after = ap (λ (s : Reading). record s { fault = c.lasting_fault-self-inside.result }) c.self-2.view_is in
+    subst (TakesFew c.args.self.now) (sym after) c.read_next-answer.ensures.few
+
+pub returns-clause-ahead : goal.returns-clause-ahead
+returns-clause-ahead g c =
+    let after = ap (λ (s : Reading). record s { fault = c.lasting_fault-self-inside.result }) c.self-2.view_is in
+    subst (HoldsLess c.read_next-answer.result) (sym after) c.read_next-answer.ensures.ahead

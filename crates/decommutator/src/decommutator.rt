@@ -5,7 +5,7 @@ ghost use Rattle.session_record.specs.Records.{held_octets};
 ghost use Rattle.session_record.specs.Writing.{Writes};
 ghost use Rattle.decommutator.specs.Standing.{new_standing, entry_answer, after_entry, after_unfollowed, ground_of, standing_text, standing_tally};
 ghost use Rattle.hk_world.specs.Worlds.{World};
-ghost use Rattle.session_texts.specs.Truth.{IsTrueText};
+ghost use Rattle.session_texts.specs.Truth.{HasTrueReasons, HaveRisingTags, IsTrueText};
 ghost use Rattle.decommutator.specs.Entries.{IsStandingIn};
 ghost use Rattle.decommutator.specs.Rows as rows;
 ghost use Rattle.decommutator.specs.Output.{FinishCounts, FinishesWithin};
@@ -167,8 +167,9 @@ impl Decommutator {
         ensures count { FinishCounts result (K.faults sink.old) (K.faults sink.new) }
         ensures room { FinishesWithin (standing_text self.now.standing) result (K.room sink.old) }
         ensures truth { (w : World) → IsStandingIn w self.now.standing → IsTrueText w (standing_text self.now.standing) }
+        ensures reasons { (w : World) → IsStandingIn w self.now.standing → HasTrueReasons HaveRisingTags w (standing_text self.now.standing) }
     {
-        // A law: it says of which worlds the text is true, and does nothing.
+        // A law: it says of which worlds the text is true, and its reasons so, and does nothing.
         texts_are_true();
         write_text(self.alloc, &self.history, &self.counts, sink)
     }

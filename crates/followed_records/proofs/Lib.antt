@@ -1,3 +1,4 @@
+pub mod CauseLemmas
 pub mod WrittenLemmas
 pub mod ToldLemmas
 pub mod ReadingLemmas

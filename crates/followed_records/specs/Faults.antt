@@ -1,5 +1,6 @@
 -- How one fault becomes another.
-use Rattle.std.specs.Prelude.{ℕ}
+use Rattle.std.specs.Prelude.{ℕ, ⊤, Result, IfErr}
+use Rattle.program_edge.specs.Faults.{IsOfRecord}
 use Rattle.ground_history.specs.declared.answer.SentFault.{SentFault}
 use Rattle.ground_history.specs.declared.answer.SentFault.TheVariants as sent
 use Rattle.session_record.specs.declared.entry.RecordFault.{RecordFault}
@@ -8,6 +9,7 @@ use Rattle.session_record.specs.declared.entry.WriteFault.{WriteFault}
 use Rattle.session_record.specs.declared.entry.WriteFault.TheVariants as write
 use Rattle.decommutator.specs.declared.fault.FollowFault.{FollowFault}
 use Rattle.decommutator.specs.declared.fault.FollowFault.TheVariants.{Sent, Write}
+use Rattle.session_texts.specs.declared.problem.RecordProblem.{RecordProblem}
 use Rattle.session_texts.specs.declared.problem.RecordProblem.TheVariants.{Format, Entry}
 use Rattle.followed_records.specs.declared.fault.FollowingFault.{FollowingFault}
 use Rattle.followed_records.specs.declared.fault.FollowingFault.TheVariants.{Record, ReadFault, WriteFault as Unwritten, Memory}
@@ -40,3 +42,18 @@ fault_of_writing write.Memory = Memory
 abbrev pub fault_of_following : FollowFault → ℕ → FollowingFault
 fault_of_following (Sent f) offset = fault_of_entry f offset
 fault_of_following (Write f) offset = fault_of_writing f
+
+-- what is wrong with a record itself: no failing shelf and no want of memory
+abbrev pub IsOfProblem : RecordProblem → Type 0
+IsOfProblem (Format fault) = IsOfRecord fault
+IsOfProblem (Entry sent.Memory offset) = ⊥
+IsOfProblem (Entry fault offset) = ⊤
+
+-- what is wrong with the record, or a cause that stands alone
+abbrev pub ByFollowing : FollowingFault → Type 0
+ByFollowing (Record problem) = IsOfProblem problem
+ByFollowing fault = ⊤
+
+-- a record isn't followed to its end for what is wrong with it, or for a cause that stands alone
+abbrev pub IsOfFollowing : {X : Type 0} → Result X FollowingFault → Type 0
+IsOfFollowing result = IfErr result ByFollowing

@@ -1,6 +1,8 @@
 //! Entries, each followed before the next one is read.
-ghost use Rattle.std.specs.Prelude.{◌≡◌, ◌≤◌, ◌<◌, ◌+◌, ◌^◌, length, IfOk, IfSome, IsSome, IsErrOf};
+ghost use Rattle.std.specs.Prelude.{◌≡◌, ◌≤◌, ◌<◌, ◌+◌, ◌^◌, length, IfOk, OnOk, IfSome, IsSome, IsErrOf};
 ghost use Rattle.hk_base.specs.Outside.{HasRisen};
+ghost use Rattle.program_edge.specs.Inputs.{IsReadOut};
+ghost use Rattle.followed_records.specs.Faults.{IsOfFollowing};
 ghost use Rattle.session_record.specs.Records.{held_octets, most_entries};
 ghost use Rattle.decommutator.specs.Following.{followed_text, closing_text};
 ghost use Rattle.followed_records.specs.Following.{told_ahead, Closes, FollowsAll, FollowsEntry, HasRoomLeft, IsUnfailed, LeavesRoomOf, SinkCounts, WithRoom};
@@ -21,7 +23,9 @@ pub(crate) fn follow_rest<F: Shelf, K: Sink>(
     requires followed { IsSome start.waiting }
     ensures followed { IfSome (F.rest shelf.old) (λ octets.
         FollowsAll result (told_ahead start reader.old) octets (F.rest shelf.new) (K.taken sink.old) (K.taken sink.new)) }
+    ensures end { OnOk result (IsReadOut (F.rest shelf.old) (F.rest shelf.new)) }
     ensures waiting { IfOk result (λ later. IsSome later.waiting) }
+    ensures causes { IsOfFollowing result }
     ensures read_fault { IsErrOf result FollowingFault.ReadFault → HasRisen (F.faults shelf.old) (F.faults shelf.new) }
     ensures count { SinkCounts result (K.faults sink.old) (K.faults sink.new) }
     ensures sound { F.is_sound shelf.old → IsSome (F.rest shelf.old) → F.faults shelf.new ≡ F.faults shelf.old }
@@ -44,6 +48,7 @@ pub(crate) fn follow_entry<K: Sink>(
     requires few { session.standing.entries < 4294967295 }
     requires size { length (held_octets entry.now) ≤ 2 ^ 31 }
     requires followed { IsSome session.waiting }
+    ensures causes { IsOfFollowing result }
     ensures followed { FollowsEntry result session offset entry.now (K.taken sink.old) (K.taken sink.new) }
     ensures count { SinkCounts result (K.faults sink.old) (K.faults sink.new) }
     ensures room { LeavesRoomOf result (followed_text session entry.now) (K.room sink.old) (K.room sink.new) }
@@ -57,6 +62,7 @@ pub(crate) fn follow_entry<K: Sink>(
 /// Writes what is written at the end.
 pub(crate) fn close<K: Sink>(session: Decommutator, sink: &mut K) -> Result<(), FollowingFault>
     requires followed { IsSome session.waiting }
+    ensures causes { IsOfFollowing result }
     ensures closed { Closes result (closing_text session) (K.taken sink.old) (K.taken sink.new) }
     ensures count { SinkCounts result (K.faults sink.old) (K.faults sink.new) }
     ensures room { IfSome (K.room sink.old) (λ room. length (closing_text session) ≤ room → IsUnfailed result) }

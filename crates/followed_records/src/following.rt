@@ -1,6 +1,8 @@
 //! A record that is followed from its first octet on.
-ghost use Rattle.std.specs.Prelude.{◌≡◌, ◌≤◌, ◌<◌, ◌+◌, ◌^◌, length, IfOk, IfSome, IsSome, IsErrOf};
+ghost use Rattle.std.specs.Prelude.{◌≡◌, ◌≤◌, ◌<◌, ◌+◌, ◌^◌, length, IfOk, OnOk, IfSome, IsSome, IsErrOf};
 ghost use Rattle.hk_base.specs.Outside.{HasRisen};
+ghost use Rattle.program_edge.specs.Inputs.{IsReadOut};
+ghost use Rattle.followed_records.specs.Faults.{IsOfFollowing};
 ghost use Rattle.session_record.specs.Records.{held_octets, most_entries};
 ghost use Rattle.followed_records.specs.Told.{told};
 ghost use Rattle.followed_records.specs.Following.{new_decommutation, told_from, Follows, IsUnfailed, SinkCounts, WithRoom};
@@ -9,11 +11,9 @@ use crate::entries::{close, follow_entry, follow_rest};
 use crate::fault::FollowingFault;
 use decommutator::{Decommutator, entries_are_followed};
 use hk_base::{Memory, Shelf, Sink, Tailoring};
+use program_edge::PIECE_OCTETS;
 use session_record::{Entry, RecordReader};
 use std::alloc::Global;
-
-/// The most octets that are asked of the shelf at a time.
-const PIECE_OCTETS: u32 = 65_536;
 
 /// Follows the record that the shelf has selected: what is written of an entry is written before the next entry is read, and
 /// the rest at the end.
@@ -25,6 +25,8 @@ pub fn follow_record<F: Shelf, K: Sink>(
 ) -> Result<(), FollowingFault>
     ensures followed { IfSome (F.rest shelf.old) (λ octets.
         Follows result (told tailoring.now) octets (F.rest shelf.new) (K.taken sink.old) (K.taken sink.new)) }
+    ensures end { OnOk result (IsReadOut (F.rest shelf.old) (F.rest shelf.new)) }
+    ensures causes { IsOfFollowing result }
     ensures read_fault { IsErrOf result FollowingFault.ReadFault → HasRisen (F.faults shelf.old) (F.faults shelf.new) }
     ensures count { SinkCounts result (K.faults sink.old) (K.faults sink.new) }
     ensures sound { F.is_sound shelf.old → IsSome (F.rest shelf.old) → F.faults shelf.new ≡ F.faults shelf.old }
@@ -55,6 +57,8 @@ fn follow_from<F: Shelf, K: Sink>(
     requires followed { IsSome session.waiting }
     ensures followed { IfSome (F.rest shelf.old) (λ octets.
         Follows result (told_from session offset entry.now reader.old) octets (F.rest shelf.new) (K.taken sink.old) (K.taken sink.new)) }
+    ensures end { OnOk result (IsReadOut (F.rest shelf.old) (F.rest shelf.new)) }
+    ensures causes { IsOfFollowing result }
     ensures read_fault { IsErrOf result FollowingFault.ReadFault → HasRisen (F.faults shelf.old) (F.faults shelf.new) }
     ensures count { SinkCounts result (K.faults sink.old) (K.faults sink.new) }
     ensures sound { F.is_sound shelf.old → IsSome (F.rest shelf.old) → F.faults shelf.new ≡ F.faults shelf.old }

@@ -134,7 +134,7 @@ start_ends stands t q None rest fault answer = tt
 start_ends stands t q (Some octets) None fault answer = absurd (none_told answer.1)
 start_ends stands t q (Some octets) (Some a) fault answer = start_fault stands t octets fault (to_come q a) answer.0
 
-nothing_written : (before : Option (List ℕ)) (text : List ℕ) → IsPrefixWritten before text before
+pub nothing_written : (before : Option (List ℕ)) (text : List ℕ) → IsPrefixWritten before text before
 nothing_written None text = (0, omega arith, tt)
 nothing_written (Some taken) text = (0, omega arith, ap Some (sym (append-nil taken)))
 

@@ -83,14 +83,19 @@ abbrev pub TellsOf : Option (List (List ℕ × List ℕ)) → Option Command →
 TellsOf files None outcome = ⊥
 TellsOf files (Some command) outcome = Tells files command outcome
 
+-- the tailoring of a name: the built-in one, or the one that the file which the shelf has of this name states, if it has no fault
+abbrev pub IsTailoring : Option (List (List ℕ × List ℕ)) → TailoringName → TailoringParts → Type 0
+IsTailoring files standard t = t ≡ builtin
+IsTailoring files (in_file name) t = IfSome (octets_of files name) (λ octets. IsOf octets t) × IsSome (octets_of files name)
+
 -- words say to replay these octets under this tailoring
 abbrev pub Replays : Option (List (List ℕ × List ℕ)) → Option Command → TailoringParts → List ℕ → Type 0
-Replays files (Some (on_record replay tailoring name)) t octets = StandsFor files tailoring (Ok t) × (octets_of files name ≡ Some octets)
+Replays files (Some (on_record replay tailoring name)) t octets = IsTailoring files tailoring t × (octets_of files name ≡ Some octets)
 Replays files command t octets = ⊥
 
 -- words say to follow these octets under this tailoring
 abbrev pub IsToFollow : Option (List (List ℕ × List ℕ)) → Option Command → TailoringParts → List ℕ → Type 0
-IsToFollow files (Some (on_record follow tailoring name)) t octets = StandsFor files tailoring (Ok t) × (octets_of files name ≡ Some octets)
+IsToFollow files (Some (on_record follow tailoring name)) t octets = IsTailoring files tailoring t × (octets_of files name ≡ Some octets)
 IsToFollow files command t octets = ⊥
 
 -- words say to do something with these octets, as a record, under this tailoring

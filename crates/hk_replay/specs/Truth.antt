@@ -17,32 +17,40 @@ pub record IsRecordOf (w : World) (octets : List ℕ) : Type 0 where
   pub record_is : read_record octets ≡ Ok (header, record { list = entries; fault = None })
   pub seen_in : IsSeenIn w header (map (λ e. e.1) entries)
 
--- What a run on the record of a world wrote: the whole of a true text, or a first part of it, or nothing where reading failed. It ends in no other way.
-abbrev pub IsTrueRun : World → ReplayStatus → Option (List ℕ) → Option (List ℕ) → Type 0
-IsTrueRun w Done before after = (text : List ℕ) × IsTrueText w text × IsWritten before text after
-IsTrueRun w WriteFault before after = (text : List ℕ) × IsTrueText w text × IsPrefixWritten before text after
-IsTrueRun w NoMemory before after = (text : List ℕ) × IsTrueText w text × IsPrefixWritten before text after
-IsTrueRun w ReadFault before after = after ≡ before
-IsTrueRun w Usage before after = ⊥
-IsTrueRun w (Tailoring fault) before after = ⊥
-IsTrueRun w (Record problem) before after = ⊥
-IsTrueRun w (Text line) before after = ⊥
+-- What a run wrote that replayed a record, where a promise is kept by the text of the record: the whole of such a text, or a first part of it; or nothing, where reading failed or the tailoring has a fault. It ends in no other way.
+abbrev pub IsRunOf : (List ℕ → Type 0) → ReplayStatus → Option (List ℕ) → Option (List ℕ) → Type 0
+IsRunOf IsPromised Done before after = (text : List ℕ) × IsPromised text × IsWritten before text after
+IsRunOf IsPromised WriteFault before after = (text : List ℕ) × IsPromised text × IsPrefixWritten before text after
+IsRunOf IsPromised NoMemory before after = (text : List ℕ) × IsPromised text × IsPrefixWritten before text after
+IsRunOf IsPromised ReadFault before after = after ≡ before
+IsRunOf IsPromised (Tailoring fault) before after = after ≡ before
+IsRunOf IsPromised Usage before after = ⊥
+IsRunOf IsPromised (Record problem) before after = ⊥
+IsRunOf IsPromised (Text line) before after = ⊥
 
--- All of a text was written that is true in a world and written as its entries come, and each of its lines is true.
-abbrev pub IsTrueWhole : World → Option (List ℕ) → Option (List ℕ) → Type 0
-IsTrueWhole w before after = (text : List ℕ) × IsTrueFollowing w text × HasTrueLines w text × IsWritten before text after
+-- what a run on the record of a world wrote is of a text that is true in it
+abbrev pub IsTrueRun : World → ReplayStatus → Option (List ℕ) → Option (List ℕ) → Type 0
+IsTrueRun w = IsRunOf (IsTrueText w)
+
+-- All of a text was written that keeps a promise, and each of its lines is true.
+abbrev pub IsWholeOf : (List ℕ → Type 0) → World → Option (List ℕ) → Option (List ℕ) → Type 0
+IsWholeOf IsPromised w before after = (text : List ℕ) × IsPromised text × HasTrueLines w text × IsWritten before text after
 
 -- A first part of such a text was written, and each line of it is true.
-abbrev pub IsTruePart : World → Option (List ℕ) → Option (List ℕ) → Type 0
-IsTruePart w before after = (text : List ℕ) × (more : List ℕ) × IsTrueFollowing w (text ++ more) × HasTrueLines w text × IsWritten before text after
+abbrev pub IsPartOf : (List ℕ → Type 0) → World → Option (List ℕ) → Option (List ℕ) → Type 0
+IsPartOf IsPromised w before after = (text : List ℕ) × (more : List ℕ) × IsPromised (text ++ more) × HasTrueLines w text × IsWritten before text after
 
--- What a run wrote that followed the record of a world: all of a true text, or a first part of it where reading or writing failed. It ends in no other way.
+-- What a run wrote that followed the record of a world: all of such a text, or a first part of it where reading or writing failed; or nothing, where the tailoring has a fault. It ends in no other way.
+abbrev pub IsFollowOf : (List ℕ → Type 0) → World → ReplayStatus → Option (List ℕ) → Option (List ℕ) → Type 0
+IsFollowOf IsPromised w Done before after = IsWholeOf IsPromised w before after
+IsFollowOf IsPromised w WriteFault before after = IsPartOf IsPromised w before after
+IsFollowOf IsPromised w NoMemory before after = IsPartOf IsPromised w before after
+IsFollowOf IsPromised w ReadFault before after = IsPartOf IsPromised w before after
+IsFollowOf IsPromised w (Tailoring fault) before after = after ≡ before
+IsFollowOf IsPromised w Usage before after = ⊥
+IsFollowOf IsPromised w (Record problem) before after = ⊥
+IsFollowOf IsPromised w (Text line) before after = ⊥
+
+-- what a run wrote that followed the record of a world is of a text that is true in it
 abbrev pub IsTrueFollow : World → ReplayStatus → Option (List ℕ) → Option (List ℕ) → Type 0
-IsTrueFollow w Done before after = IsTrueWhole w before after
-IsTrueFollow w WriteFault before after = IsTruePart w before after
-IsTrueFollow w NoMemory before after = IsTruePart w before after
-IsTrueFollow w ReadFault before after = IsTruePart w before after
-IsTrueFollow w Usage before after = ⊥
-IsTrueFollow w (Tailoring fault) before after = ⊥
-IsTrueFollow w (Record problem) before after = ⊥
-IsTrueFollow w (Text line) before after = ⊥
+IsTrueFollow w = IsFollowOf (IsTrueFollowing w) w

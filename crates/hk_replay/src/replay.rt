@@ -6,7 +6,8 @@ ghost use Rattle.hk_base.specs.TailoringParts.{TailoringParts};
 ghost use Rattle.hk_tailoring.specs.declared.fault.TailoringFault.{TailoringFault};
 ghost use Rattle.pus_messages.specs.Messages.{protocol};
 ghost use Rattle.hk_world.specs.Worlds.{World, IsWorld};
-ghost use Rattle.hk_replay.specs.Truth.{IsRecordOf, IsTrueFollow, IsTrueRun};
+ghost use Rattle.session_texts.specs.Truth.{HasTrueReasons, HaveDistinctTags, HaveRisingTags};
+ghost use Rattle.hk_replay.specs.Truth.{IsFollowOf, IsRecordOf, IsRunOf, IsTrueFollow, IsTrueRun};
 ghost use Rattle.hk_replay.specs.Words.{command_of};
 ghost use Rattle.hk_replay.specs.Asked.{asked_job, asked_of_record, named};
 ghost use Rattle.hk_replay.specs.Outcomes.{Outcome, outcome_text, record_outcome, follow_outcome, show_outcome, encode_outcome, trim_outcome};
@@ -54,8 +55,11 @@ pub fn replay_main<F: Shelf, K: Sink>(
 
     // The headline: on the record of a world, whatever of it was lost, delayed, repeated or reordered, the text is true of what the board did there.
     ensures headline { (w : World) → IsWorld w → (t : TailoringParts) → w.session.protocol ≡ protocol t → (octets : List ℕ) → Replays (F.files shelf.old) (command_of (map string_bytes words.now)) t octets → IsRecordOf w octets → IsTrueRun w result (K.taken sink.old) (K.taken sink.new) }
+    // And the reasons that it gives are so: each request that is named leaves its report open.
+    ensures reasons { (w : World) → IsWorld w → (t : TailoringParts) → w.session.protocol ≡ protocol t → (octets : List ℕ) → Replays (F.files shelf.old) (command_of (map string_bytes words.now)) t octets → IsRecordOf w octets → IsRunOf (HasTrueReasons HaveRisingTags w) result (K.taken sink.old) (K.taken sink.new) }
     // The same of a record that is followed: what was written is true, each line of it, also where reading or writing failed.
     ensures following { (w : World) → IsWorld w → (t : TailoringParts) → w.session.protocol ≡ protocol t → (octets : List ℕ) → IsToFollow (F.files shelf.old) (command_of (map string_bytes words.now)) t octets → IsRecordOf w octets → IsTrueFollow w result (K.taken sink.old) (K.taken sink.new) }
+    ensures following_reasons { (w : World) → IsWorld w → (t : TailoringParts) → w.session.protocol ≡ protocol t → (octets : List ℕ) → IsToFollow (F.files shelf.old) (command_of (map string_bytes words.now)) t octets → IsRecordOf w octets → IsFollowOf (HasTrueReasons HaveDistinctTags w) w result (K.taken sink.old) (K.taken sink.new) }
 {
     // Laws: they say what is so in each world, and do nothing.
     records_of_worlds_have_no_problem();

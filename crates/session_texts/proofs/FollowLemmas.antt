@@ -29,14 +29,14 @@ use Rattle.session_texts.specs.Sessions.{seen, seen_entry, known_after, kinds_af
 use Rattle.session_texts.specs.Blocks.{block}
 use Rattle.session_texts.specs.Texts.{count_lines}
 use Rattle.session_texts.specs.Follow.{is_ready, is_ready_body, has_tag, new_ones, known_by, written_tags, followed, follow_text}
-use Rattle.session_texts.specs.Truth.{Block, statistics_block, current_block, block_lines, block_tag, IsTrueBlock, IsBlockOf, has_block, HasBlock, HasEachReport, HaveRisingTags, HaveDistinctTags, IsTrueSoFar, IsTrueFollowing, IsSeenIn, kinds_in}
+use Rattle.session_texts.specs.Truth.{Block, statistics_block, current_block, block_lines, block_tag, HasTrueReason, IsTrueBlock, IsBlockOf, has_block, HasBlock, HasEachReport, HaveRisingTags, HaveDistinctTags, IsTrueSoFar, IsTrueFollowing, HasTrueReasons, IsSeenIn, kinds_in}
 use Rattle.session_texts.proofs.EntryLemmas.{seen_with, seen-more}
 use Rattle.session_texts.proofs.ProblemLemmas.{seen-append}
 use Rattle.session_texts.proofs.BlockLemmas.{report_block, block_of_body, block_of, blocks_of, lines-of}
 use Rattle.session_texts.proofs.KeptFacts.{AreRising, kept-rising, rising-once, IsKeptFor, kept-for}
 use Rattle.session_texts.proofs.CountFacts.{counts-true}
-use Rattle.session_texts.proofs.TruthLemmas.{true-block, block-is, block-tag, all-blocks, rising-blocks, kept-body, world-genuine, seen-kinds}
-use Rattle.session_texts.proofs.LaterFacts.{IsFinal, world_of, block-later}
+use Rattle.session_texts.proofs.TruthLemmas.{true-block, true-reasons, block-is, block-tag, all-blocks, rising-blocks, kept-body, world-genuine, seen-kinds}
+use Rattle.session_texts.proofs.LaterFacts.{IsFinal, world_of, block-later, reason-later}
 
 -- ---- lists of blocks
 
@@ -108,12 +108,13 @@ ready-final t h tag (Hk (hk.Values key payload)) b ready e = subst IsFinal (same
 ready-final t h tag (Stat (stat.Statistics report)) b ready e = subst IsFinal (same_Some (statistics_block tag report) b e) tt
 ready-final t h tag (Par report) b ready e = subst IsFinal (same_Some (current_block tag report) b e) tt
 
--- what was written after some steps: blocks that are true and can't be taken back, each of another report, and each with one of the tags that are written; each tag that is written is that of a kept packet, whose block is there if it has one
+-- what was written after some steps: blocks that are true, give true reasons and can't be taken back, each of another report, and each with one of the tags that are written; each tag that is written is that of a kept packet, whose block is there if it has one
 record IsWritten (s : Session) (steps : List Step) (tags text : List ℕ) : Type 0 where
   blocks : List Block
   lines : text ≡ flat_map (block_lines (tailoring s)) blocks
   once : HaveDistinctTags blocks
   each : AllByRecursion (IsTrueBlock (world_of s steps)) blocks
+  reasons : AllByRecursion (HasTrueReason (world_of s steps)) blocks
   final : AllByRecursion IsFinal blocks
   within : AllByRecursion (λ b. IsIn (block_tag b) tags) blocks
   written : (tag : ℕ) → IsIn tag tags → (k : Kept) × IsIn k (history_after s steps).kept × (tag_of k ≡ tag) × (has_block k.report.body ≡ true → HasOne blocks tag k.report.body)
@@ -143,6 +144,11 @@ module _ (t : TailoringParts) (s : Session) (steps : List Step) (e : s.protocol 
     new-each =
         all-blocks (tailoring s) known (λ k. IsIn k chosen) (IsTrueBlock (world_of s steps))
         (λ k b some i. true-block t (world_of s steps) e world k (IsIn-filter test k known.kept i).0 b some) chosen chosen_all
+
+    new-reasons : AllByRecursion (HasTrueReason (world_of s steps)) new_blocks
+    new-reasons =
+        all-blocks (tailoring s) known (λ k. IsIn k chosen) (HasTrueReason (world_of s steps))
+        (λ k b some i. true-reasons t (world_of s steps) e world k (IsIn-filter test k known.kept i).0 b some) chosen chosen_all
 
     -- none of them has a tag that is written
     new-fresh : AllByRecursion (λ b. IsIn (block_tag b) tags → ⊥) new_blocks
@@ -178,6 +184,7 @@ module _ (t : TailoringParts) (s : Session) (steps : List Step) (e : s.protocol 
             ∙ sym (flat_map-append (block_lines (tailoring s)) w.blocks bs);
         once = distinct-append w.blocks bs w.once (new-once test tags fresh) (new-apart test tags fresh w.blocks w.within);
         each = AllByRecursion-append (IsTrueBlock (world_of s steps)) w.blocks bs w.each (new-each test tags fresh);
+        reasons = AllByRecursion-append (HasTrueReason (world_of s steps)) w.blocks bs w.reasons (new-reasons test tags fresh);
         final = AllByRecursion-append IsFinal w.blocks bs w.final new-final;
         within = AllByRecursion-append (λ b. IsIn (block_tag b) all_tags) w.blocks bs
             (IsIn-AllByRecursion (λ b. IsIn (block_tag b) all_tags) w.blocks (λ b i. IsIn-left (block_tag b) tags new_tags (AllByRecursion-IsIn (λ x. IsIn (block_tag x) tags) b w.blocks w.within i)))
@@ -233,23 +240,29 @@ module _ (t : TailoringParts) (s : Session) (steps : List Step) (e : s.protocol 
 
   -- what the end brings
   end-written : (tags text : List ℕ) → IsWritten s steps tags text → (kinds : List GotKind) → kinds ≡ kinds_in (world_of s steps)
-      → IsTrueFollowing (world_of s steps) (text ++ (flat_map (block (tailoring s) known) (filter (λ k. not (has_tag tags k)) known.kept) ++ count_lines kinds))
+      → HasTrueReasons HaveDistinctTags (world_of s steps) (text ++ (flat_map (block (tailoring s) known) (filter (λ k. not (has_tag tags k)) known.kept) ++ count_lines kinds))
   end-written tags text w kinds is =
-      let bs : List Block = new_blocks test tags fresh in
-      record {
-        blocks = w.blocks ++ bs;
-        kinds = kinds_in (world_of s steps);
-        lines =
-            ap (λ xs. xs ++ (flat_map (block (tailoring s) known) rest ++ count_lines kinds)) w.lines
-            ∙ ap (λ xs. flat_map (block_lines (tailoring s)) w.blocks ++ (xs ++ count_lines kinds)) (lines-of (tailoring s) known rest)
-            ∙ sym (append_assoc (flat_map (block_lines (tailoring s)) w.blocks) (flat_map (block_lines (tailoring s)) bs) (count_lines kinds))
-            ∙ ap (λ xs. xs ++ count_lines kinds) (sym (flat_map-append (block_lines (tailoring s)) w.blocks bs))
-            ∙ ap (λ xs. flat_map (block_lines (tailoring s)) (w.blocks ++ bs) ++ count_lines xs) is;
-        once = distinct-append w.blocks bs w.once (new-once test tags fresh) (new-apart test tags fresh w.blocks w.within);
-        each = AllByRecursion-append (IsTrueBlock (world_of s steps)) w.blocks bs w.each (new-each test tags fresh);
-        complete = each-report;
-        counts = counts-true (world_of s steps) world.steps (world-genuine t (world_of s steps) e world);
-      }
+      let bs : List Block = new_blocks test tags fresh in (
+        record {
+          front = flat_map (block_lines (tailoring s)) (w.blocks ++ bs);
+          written = record {
+            blocks = w.blocks ++ bs;
+            lines = refl;
+            order = distinct-append w.blocks bs w.once (new-once test tags fresh) (new-apart test tags fresh w.blocks w.within);
+            each = AllByRecursion-append (IsTrueBlock (world_of s steps)) w.blocks bs w.each (new-each test tags fresh);
+          };
+          kinds = kinds_in (world_of s steps);
+          lines =
+              ap (λ xs. xs ++ (flat_map (block (tailoring s) known) rest ++ count_lines kinds)) w.lines
+              ∙ ap (λ xs. flat_map (block_lines (tailoring s)) w.blocks ++ (xs ++ count_lines kinds)) (lines-of (tailoring s) known rest)
+              ∙ sym (append_assoc (flat_map (block_lines (tailoring s)) w.blocks) (flat_map (block_lines (tailoring s)) bs) (count_lines kinds))
+              ∙ ap (λ xs. xs ++ count_lines kinds) (sym (flat_map-append (block_lines (tailoring s)) w.blocks bs))
+              ∙ ap (λ xs. flat_map (block_lines (tailoring s)) (w.blocks ++ bs) ++ count_lines xs) is;
+          complete = each-report;
+          counts = counts-true (world_of s steps) world.steps (world-genuine t (world_of s steps) e world);
+        },
+        AllByRecursion-append (HasTrueReason (world_of s steps)) w.blocks bs w.reasons (new-reasons test tags fresh),
+      )
     where
       test : Kept → Bool
       test k = not (has_tag tags k)
@@ -342,6 +355,8 @@ written-later s later earlier tags text h w =
       once = w.once;
       each = IsIn-AllByRecursion (IsTrueBlock (world_of s (later ++ earlier))) w.blocks
           (λ b i. block-later s later earlier h b (AllByRecursion-IsIn IsFinal b w.blocks w.final i) (AllByRecursion-IsIn (IsTrueBlock (world_of s earlier)) b w.blocks w.each i));
+      reasons = IsIn-AllByRecursion (HasTrueReason (world_of s (later ++ earlier))) w.blocks
+          (λ b i. reason-later s later earlier b (AllByRecursion-IsIn IsFinal b w.blocks w.final i) (AllByRecursion-IsIn (HasTrueReason (world_of s earlier)) b w.blocks w.reasons i));
       final = w.final;
       within = w.within;
       written = λ tag i. let k = w.written tag i in (k.0, grown.kept k.0 k.1, k.2, k.3);
@@ -366,7 +381,7 @@ known-is s steps h entries a b e =
 followed-written : (t : TailoringParts) (s : Session) (h : Header) (entries : List Entry) (steps : List Step) → s.protocol ≡ protocol t → IsWorld (world_of s steps) → h.known ≡ s.known → h.long ≡ s.long
     → seen (reverse entries) ≡ entries_seen s.requests steps → IsWritten s steps (written_tags s.protocol h entries) (followed s.protocol h entries)
 followed-written t s h [] steps p world a b e =
-    record { blocks = []; lines = refl; once = tt; each = tt; final = tt; within = tt; written = λ tag i. absurd i }
+    record { blocks = []; lines = refl; once = tt; each = tt; reasons = tt; final = tt; within = tt; written = λ tag i. absurd i }
 followed-written t s h (x ∷ earlier) steps p world a b e =
     let tags : List ℕ = written_tags s.protocol h earlier in
     let text : List ℕ = followed s.protocol h earlier in
@@ -385,7 +400,7 @@ turned : (w : World) (h : Header) (entries : List Entry) → IsSeenIn w h entrie
 turned w h entries s = (s.0, s.1, ap seen (reverse-reverse entries) ∙ s.2)
 
 whole-followed : (t : TailoringParts) (w : World) (h : Header) (entries : List Entry) → w.session.protocol ≡ protocol t → IsWorld w → IsSeenIn w h entries
-    → IsTrueFollowing w (follow_text w.session.protocol h entries)
+    → HasTrueReasons HaveDistinctTags w (follow_text w.session.protocol h entries)
 whole-followed t w h entries e world s =
     let p : Protocol = w.session.protocol in
     let tags : List ℕ = written_tags p h (reverse entries) in
@@ -395,15 +410,19 @@ whole-followed t w h entries e world s =
     let kinds : kinds_after p h (reverse (reverse entries)) ≡ kinds_in w =
     ap (λ q. kinds_after q h (reverse (reverse entries))) e ∙ seen-kinds t w h (reverse (reverse entries)) e twice in
     let same : known_by p h (reverse entries) ≡ history_in w = known-is w.session w.steps h (reverse (reverse entries)) s.0 s.1 twice.2 in
-    subst (λ k. IsTrueFollowing w
+    subst (λ k. HasTrueReasons HaveDistinctTags w
     (text ++ (flat_map (block (tailoring w.session) k) (filter (λ x. not (has_tag tags x)) k.kept) ++ count_lines (kinds_after p h (reverse (reverse entries))))))
     (sym same)
     (end-written t w.session w.steps e world tags text written (kinds_after p h (reverse (reverse entries))) kinds)
 
--- in every world what is written as its entries come is true
+-- in every world what is written as its entries come is true, and gives true reasons
+pub follow_reasons : (t : TailoringParts) (w : World) (h : Header) (entries : List Entry) → w.session.protocol ≡ protocol t → IsWorld w → IsSeenIn w h entries
+    → HasTrueReasons HaveDistinctTags w (follow_text (protocol t) h entries)
+follow_reasons t w h entries e world s = subst (λ p. HasTrueReasons HaveDistinctTags w (follow_text p h entries)) e (whole-followed t w h entries e world s)
+
 pub follow_true : (t : TailoringParts) (w : World) (h : Header) (entries : List Entry) → w.session.protocol ≡ protocol t → IsWorld w → IsSeenIn w h entries
     → IsTrueFollowing w (follow_text (protocol t) h entries)
-follow_true t w h entries e world s = subst (λ p. IsTrueFollowing w (follow_text p h entries)) e (whole-followed t w h entries e world s)
+follow_true t w h entries e world s = (follow_reasons t w h entries e world s).0
 
 so-far : (t : TailoringParts) (w : World) (h : Header) (earlier later : List Entry) → w.session.protocol ≡ protocol t → IsWorld w → IsSeenIn w h (earlier ++ later)
     → IsTrueSoFar w (followed w.session.protocol h (reverse earlier))
@@ -416,7 +435,7 @@ so-far t w h earlier later e world s =
     followed-written t w.session h (reverse earlier) b.earlier e (world-before w.session w.steps b.later b.earlier b.is world) s.0 s.1
     (ap seen (reverse-reverse earlier) ∙ sym b.seen_is) in
     let here : IsWritten w.session w.steps tags text = written-whole w.session w.steps b.later b.earlier tags text b.is world old in
-    record { blocks = here.blocks; lines = here.lines; once = here.once; each = here.each }
+    record { blocks = here.blocks; lines = here.lines; order = here.once; each = here.each }
 
 -- so is what was written before any of its entries
 pub follow_so_far : (t : TailoringParts) (w : World) (h : Header) (earlier later : List Entry) → w.session.protocol ≡ protocol t → IsWorld w → IsSeenIn w h (earlier ++ later)

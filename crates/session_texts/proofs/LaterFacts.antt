@@ -27,7 +27,7 @@ use Rattle.definition_intervals.specs.declared.answer.Verdict.TheVariants.{Decid
 use Rattle.definition_intervals.proofs.RecordLemmas.{HasGrown, world_grows}
 use Rattle.definition_intervals.proofs.WorldContainment.{history-known}
 use Rattle.session_texts.specs.Follow.{is_decision}
-use Rattle.session_texts.specs.Truth.{Block, parameter_block, statistics_block, current_block, openings_in, AreTrueRows, IsOfReport, IsTrueBlock}
+use Rattle.session_texts.specs.Truth.{Block, parameter_block, statistics_block, current_block, openings_in, AreTrueRows, HasTrueReason, IsOfReport, IsTrueBlock}
 
 -- a block that can't be taken back: a parameter report's is decided
 abbrev pub IsFinal : Block → Type 0
@@ -181,10 +181,8 @@ opened-later s later earlier key tag some =
 -- a block that can't be taken back and is true in a prefix is true in the whole
 pub block-later : (s : Session) (later earlier : List Step) → EachAfter (MayStep s) (later ++ earlier) → (b : Block) → IsFinal b → IsTrueBlock (world_of s earlier) b
     → IsTrueBlock (world_of s (later ++ earlier)) b
-block-later s later earlier h (parameter_block key tag (Decided d) rows) final ((payload, of), (r, some)) = (
-  (payload, report-later s later earlier tag (Hk (hk.Values key payload)) of),
-  (rows-later s later earlier h key tag payload d rows of.made r, opened-later s later earlier key tag some),
-)
+block-later s later earlier h (parameter_block key tag (Decided d) rows) final ((payload, of), r) =
+    ((payload, report-later s later earlier tag (Hk (hk.Values key payload)) of), rows-later s later earlier h key tag payload d rows of.made r)
 block-later s later earlier h (parameter_block key tag (Undecidable k) rows) final true_before = absurd (true≢false (sym final))
 block-later s later earlier h (parameter_block key tag (Crowded k) rows) final true_before = absurd (true≢false (sym final))
 block-later s later earlier h (parameter_block key tag NoOpening rows) final true_before = absurd (true≢false (sym final))
@@ -195,3 +193,13 @@ block-later s later earlier h (statistics_block tag report) final (of, rows) =
 block-later s later earlier h (current_block tag report) final (of, rows) =
     let new : IsOfReport (world_of s (later ++ earlier)) tag (Par report) = report-later s later earlier tag (Par report) of in
     (new, λ row x there. (report, new.made, there))
+
+-- and so is its reason
+pub reason-later : (s : Session) (later earlier : List Step) (b : Block) → IsFinal b → HasTrueReason (world_of s earlier) b → HasTrueReason (world_of s (later ++ earlier)) b
+reason-later s later earlier (parameter_block key tag (Decided d) rows) final some = opened-later s later earlier key tag some
+reason-later s later earlier (parameter_block key tag (Undecidable k) rows) final reason = absurd (true≢false (sym final))
+reason-later s later earlier (parameter_block key tag (Crowded k) rows) final reason = absurd (true≢false (sym final))
+reason-later s later earlier (parameter_block key tag NoOpening rows) final reason = absurd (true≢false (sym final))
+reason-later s later earlier (parameter_block key tag Impossible rows) final reason = absurd (true≢false (sym final))
+reason-later s later earlier (statistics_block tag report) final reason = tt
+reason-later s later earlier (current_block tag report) final reason = tt

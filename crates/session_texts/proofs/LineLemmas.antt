@@ -21,7 +21,7 @@ use Rattle.definition_intervals.specs.declared.answer.Verdict.{Verdict}
 use Rattle.definition_intervals.specs.declared.answer.Verdict.TheVariants.{Decided, Undecidable, Crowded, NoOpening, Impossible}
 use Rattle.session_texts.specs.Blocks.{line_end, report_front, value_line, stat_line, current_line}
 use Rattle.session_texts.specs.Texts.{is_repeat, is_conflict, is_foreign, is_skipped, is_unread, is_stray, count_line, count_lines}
-use Rattle.session_texts.specs.Truth.{Block, parameter_block, statistics_block, current_block, verdict_line, block_lines, IsTrueBlock, IsTrueText, IsTrueSoFar, IsTrueFollowing}
+use Rattle.session_texts.specs.Truth.{Block, parameter_block, statistics_block, current_block, verdict_line, block_lines, IsTrueBlock, IsTrueIn, IsTrueText, IsTrueSoFar, IsTrueFollowing}
 use Rattle.session_texts.specs.Lines.{lines_of, verdict_text, report_text, decided_text, value_text, statistics_text, stat_text, values_text, current_text, begins, IsTrueLine, AreTrueUnder, HasTrueLines}
 use Rattle.session_texts.proofs.FeedLemmas.{has_no_feed, no_feed-append, no_feed-decimal, no_feed-signed, line-more, fed, fed-append, AreWhole, lines-fed, lines-front}
 
@@ -341,7 +341,7 @@ block-true w (parameter_block key tag (Decided d) rows) h above =
     let same : (row : ℕ) → 0 + row ≡ row = λ row. omega arith in (
       report-line w above key tag (Decided d) rows h,
       value-rows w key tag d.interval above [] rows
-          (λ row place value e. subst (λ n. IsTrueValue w key tag d.interval n place.param place.slot value) (sym (same row)) (h.1.0.values row place value e)),
+          (λ row place value e. subst (λ n. IsTrueValue w key tag d.interval n place.param place.slot value) (sym (same row)) (h.1.values row place value e)),
     )
 block-true w (parameter_block key tag (Undecidable k) rows) h above = (report-line w above key tag (Undecidable k) rows h, no-rows w _ rows h.1.1)
 block-true w (parameter_block key tag (Crowded k) rows) h above = (report-line w above key tag (Crowded k) rows h, no-rows w _ rows h.1.1)
@@ -400,11 +400,15 @@ front-true w written rest h =
     go above [] ys g = tt
     go above (x ∷ xs) ys g = (g.0, go (x ∷ above) xs ys g.1)
 
+whole-lines : {are_ordered : List Block → Type 0} (w : World) (text : List ℕ) → IsTrueIn are_ordered w text → HasTrueLines w text
+whole-lines w text x =
+    texts-lines w text x.written.blocks x.kinds (x.lines ∙ ap (λ front. front ++ count_lines x.kinds) x.written.lines) x.written.each
+
 pub text_lines : (w : World) (written rest : List ℕ) → IsTrueText w (written ++ rest) → HasTrueLines w written
-text_lines w written rest x = front-true w written rest (texts-lines w (written ++ rest) x.blocks x.kinds x.lines x.each)
+text_lines w written rest x = front-true w written rest (whole-lines w (written ++ rest) x)
 
 pub followed_lines : (w : World) (written rest : List ℕ) → IsTrueFollowing w (written ++ rest) → HasTrueLines w written
-followed_lines w written rest x = front-true w written rest (texts-lines w (written ++ rest) x.blocks x.kinds x.lines x.each)
+followed_lines w written rest x = front-true w written rest (whole-lines w (written ++ rest) x)
 
 pub so_far_lines : (w : World) (written rest : List ℕ) → IsTrueSoFar w (written ++ rest) → HasTrueLines w written
 so_far_lines w written rest x =

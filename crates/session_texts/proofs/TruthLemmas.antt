@@ -2,7 +2,7 @@
 use Rattle.std.proofs.Common.{◌≡◌, ℕ, ◌<◌, refl, sym, ◌∙◌, ap, subst, List, [], ◌∷◌, ◌++◌, Bool, true, false, Option, Some, None, ◌⊎◌, inl, inr}
 use Rattle.std.proofs.lemmas.Bool.{true≢false}
 use Rattle.std.proofs.lemmas.Option.{none-some, same_Some}
-use Rattle.std.specs.Prelude.{◌≢◌}
+use Rattle.std.specs.Prelude.{◌≢◌, flat_map}
 use Rattle.std.specs.List.{cons_option, AllByRecursion}
 use Rattle.hk_base.specs.TailoringParts.{TailoringParts}
 use Rattle.hk_base.specs.declared.types.Key.{Key}
@@ -36,7 +36,7 @@ use Rattle.session_record.specs.declared.header.Header.{Header}
 use Rattle.session_record.specs.declared.entry.Entry.{Entry}
 use Rattle.session_texts.specs.Sessions.{seen, known_after, kinds_of, kinds_after}
 use Rattle.session_texts.specs.Texts.{count_lines, blocks, text}
-use Rattle.session_texts.specs.Truth.{Block, statistics_block, current_block, block_tag, openings_in, IsNamed, AreTrueRows, IsTrueVerdict, IsOfReport, IsTrueBlock, IsBlockOf, has_block, HasEachReport, HaveRisingTags, IsTrueText, IsSeenIn, kinds_in}
+use Rattle.session_texts.specs.Truth.{Block, statistics_block, current_block, block_tag, block_lines, openings_in, IsNamed, AreTrueRows, IsUnsettled, IsTrueVerdict, IsTrueReason, HasTrueReason, IsOfReport, IsTrueBlock, IsBlockOf, has_block, HasEachReport, HaveRisingTags, HasTrueReasons, IsTrueText, IsSeenIn, kinds_in}
 use Rattle.session_texts.proofs.BlockLemmas.{read_rows, verdict_rows, report_block, block_of_body, block_of, blocks_of, lines-of}
 use Rattle.session_texts.proofs.KeptFacts.{AreRising, kept-rising, IsThatOf, that-of, IsKeptFor, kept-for}
 use Rattle.session_texts.proofs.CountFacts.{counts-true}
@@ -77,23 +77,28 @@ module _ (t : TailoringParts) (w : World) (key : Key) (tag : ℕ) (payload : Lis
         greatest = f.greatest;
         first = f.first;
         open_change = names_are_open w.session.protocol w.session.known w.session.long (entries_seen w.session.requests w.steps) key tag payload k told;
-        unsettled = shut;
       }
 
+  open-report : ((d : Definition) → verdict_in w key tag payload ≢ Decided d) → IsUnsettled w key tag
+  open-report other = unsettled other (is_settled (tailoring w.session) (history_in w) key tag) refl
+
   true-verdict : (v : Verdict) → verdict_in w key tag payload ≡ v → IsTrueVerdict w key tag v (verdict_rows (tailoring w.session) tag payload v)
-  true-verdict (Decided d) is = (true-rows d is, opened (λ none. let clash : Decided d ≡ NoOpening = sym is ∙ none in cc))
-  true-verdict (Undecidable k) is =
-      let names : named_by (verdict_in w key tag payload) (named_request (openings_in w key tag)) ≡ k = ap (λ v. named_by v (named_request (openings_in w key tag))) is in (
-        named k names (λ none. let clash : Undecidable k ≡ NoOpening = sym is ∙ none in cc) (λ d x. let clash : Undecidable k ≡ Decided d = sym is ∙ x in cc) (inl is),
-        refl,
-      )
-  true-verdict (Crowded k) is =
-      let names : named_by (verdict_in w key tag payload) (named_request (openings_in w key tag)) ≡ k = ap (λ v. named_by v (named_request (openings_in w key tag))) is in (
-        named k names (λ none. let clash : Crowded k ≡ NoOpening = sym is ∙ none in cc) (λ d x. let clash : Crowded k ≡ Decided d = sym is ∙ x in cc) (inr is),
-        refl,
-      )
-  true-verdict NoOpening is = (no-opening (tailoring w.session) tag payload (openings_in w key tag) is, refl)
+  true-verdict (Decided d) is = true-rows d is
+  true-verdict (Undecidable k) is = (open-report (λ d x. let clash : Undecidable k ≡ Decided d = sym is ∙ x in cc), refl)
+  true-verdict (Crowded k) is = (open-report (λ d x. let clash : Crowded k ≡ Decided d = sym is ∙ x in cc), refl)
+  true-verdict NoOpening is = (open-report (λ d x. let clash : NoOpening ≡ Decided d = sym is ∙ x in cc), refl)
   true-verdict Impossible is = absurd (sound.possible is)
+
+  true-reason : (v : Verdict) → verdict_in w key tag payload ≡ v → IsTrueReason w key tag v
+  true-reason (Decided d) is = opened (λ none. let clash : Decided d ≡ NoOpening = sym is ∙ none in cc)
+  true-reason (Undecidable k) is =
+      let names : named_by (verdict_in w key tag payload) (named_request (openings_in w key tag)) ≡ k = ap (λ v. named_by v (named_request (openings_in w key tag))) is in
+      named k names (λ none. let clash : Undecidable k ≡ NoOpening = sym is ∙ none in cc) (λ d x. let clash : Undecidable k ≡ Decided d = sym is ∙ x in cc) (inl is)
+  true-reason (Crowded k) is =
+      let names : named_by (verdict_in w key tag payload) (named_request (openings_in w key tag)) ≡ k = ap (λ v. named_by v (named_request (openings_in w key tag))) is in
+      named k names (λ none. let clash : Crowded k ≡ NoOpening = sym is ∙ none in cc) (λ d x. let clash : Crowded k ≡ Decided d = sym is ∙ x in cc) (inr is)
+  true-reason NoOpening is = no-opening (tailoring w.session) tag payload (openings_in w key tag) is
+  true-reason Impossible is = absurd (sound.possible is)
 
 -- ---- the block of a kept packet
 
@@ -125,6 +130,25 @@ true-body t w e world k i (Par report) is b some =
 pub true-block : (t : TailoringParts) (w : World) → w.session.protocol ≡ protocol t → IsWorld w → (k : Kept) → IsIn k (history_in w).kept
     → (b : Block) → block_of (tailoring w.session) (history_in w) k ≡ Some b → IsTrueBlock w b
 true-block t w e world k i b some = true-body t w e world k i k.report.body refl b some
+
+reason-body : (t : TailoringParts) (w : World) → w.session.protocol ≡ protocol t → IsWorld w → (k : Kept) → IsIn k (history_in w).kept → (body : ReportBody) → k.report.body ≡ body
+    → (b : Block) → block_of_body (tailoring w.session) (history_in w) (tag_of k) body ≡ Some b → HasTrueReason w b
+reason-body t w e world k i (Verify v) is b some = absurd (none-some b some)
+reason-body t w e world k i (Hk (hk.Structure key structure)) is b some = absurd (none-some b some)
+reason-body t w e world k i (Hk (hk.Periodic kind rows)) is b some = absurd (none-some b some)
+reason-body t w e world k i (Stat (stat.Definitions enabled interval params)) is b some = absurd (none-some b some)
+reason-body t w e world k i (Hk (hk.Values key payload)) is b some =
+    let at = IsIn-index k (history_in w).kept i in
+    let report : HasReport (history_in w) key (tag_of k) payload = (at.0, k, at.1, refl, is) in
+    let v : Verdict = verdict_in w key (tag_of k) payload in
+    subst (HasTrueReason w) (same_Some (report_block (tailoring w.session) key (tag_of k) payload v) b some) (true-reason t w key (tag_of k) payload e world report v refl)
+reason-body t w e world k i (Stat (stat.Statistics report)) is b some = subst (HasTrueReason w) (same_Some (statistics_block (tag_of k) report) b some) tt
+reason-body t w e world k i (Par report) is b some = subst (HasTrueReason w) (same_Some (current_block (tag_of k) report) b some) tt
+
+-- and it gives a true reason
+pub true-reasons : (t : TailoringParts) (w : World) → w.session.protocol ≡ protocol t → IsWorld w → (k : Kept) → IsIn k (history_in w).kept
+    → (b : Block) → block_of (tailoring w.session) (history_in w) k ≡ Some b → HasTrueReason w b
+true-reasons t w e world k i b some = reason-body t w e world k i k.report.body refl b some
 
 -- a report that has a block
 pub block-is : (t : TailoringParts) (h : History) (tag : ℕ) (body : ReportBody) → has_block body ≡ true → (b : Block) × (block_of_body t h tag body ≡ Some b) × IsBlockOf tag body b
@@ -194,24 +218,41 @@ each-report t w e world i m body there is has =
     let of : IsBlockOf m.tag body b.0 = subst (λ n. IsBlockOf n body b.0) (sym k.tag) (subst (λ x. IsBlockOf (tag_of k.kept) x b.0) (sym same) b.2) in
     (at.0, b.0, at.1, of)
 
--- in a world the text of what is known is true
-pub known-true : (t : TailoringParts) (w : World) → w.session.protocol ≡ protocol t → IsWorld w → IsTrueText w (blocks w.session.protocol (history_in w) ++ count_lines (kinds_in w))
-known-true t w e world =
-    record {
-      blocks = blocks_of (tailoring w.session) (history_in w) (history_in w).kept;
-      kinds = kinds_in w;
-      lines = ap (λ xs. xs ++ count_lines (kinds_in w)) (lines-of (tailoring w.session) (history_in w) (history_in w).kept);
+-- in a world the text of what is known is true, and gives true reasons
+pub known-true : (t : TailoringParts) (w : World) → w.session.protocol ≡ protocol t → IsWorld w
+    → HasTrueReasons HaveRisingTags w (blocks w.session.protocol (history_in w) ++ count_lines (kinds_in w))
+known-true t w e world = (
+  record {
+    front = flat_map (block_lines (tailoring w.session)) all;
+    written = record {
+      blocks = all;
+      lines = refl;
       order = rising-blocks (tailoring w.session) (history_in w) (history_in w).kept
           (kept-rising w.session.protocol w.session.known w.session.long (entries_seen w.session.requests w.steps));
       each = all-blocks (tailoring w.session) (history_in w) (λ k. IsIn k (history_in w).kept) (IsTrueBlock w)
-          (λ k b some i. true-block t w e world k i b some) (history_in w).kept
-          (IsIn-AllByRecursion (λ k. IsIn k (history_in w).kept) (history_in w).kept (λ k i. i));
-      complete = each-report t w e world;
-      counts = counts-true w world.steps (world-genuine t w e world);
-    }
+          (λ k b some i. true-block t w e world k i b some) (history_in w).kept inside;
+    };
+    kinds = kinds_in w;
+    lines = ap (λ xs. xs ++ count_lines (kinds_in w)) (lines-of (tailoring w.session) (history_in w) (history_in w).kept);
+    complete = each-report t w e world;
+    counts = counts-true w world.steps (world-genuine t w e world);
+  },
+  all-blocks (tailoring w.session) (history_in w) (λ k. IsIn k (history_in w).kept) (HasTrueReason w)
+      (λ k b some i. true-reasons t w e world k i b some) (history_in w).kept inside,
+)
+  where
+    all : List Block
+    all = blocks_of (tailoring w.session) (history_in w) (history_in w).kept
+
+    inside : AllByRecursion (λ k. IsIn k (history_in w).kept) (history_in w).kept
+    inside = IsIn-AllByRecursion (λ k. IsIn k (history_in w).kept) (history_in w).kept (λ k i. i)
+
+pub known_reasons : (t : TailoringParts) (w : World) → w.session.protocol ≡ protocol t → IsWorld w
+    → HasTrueReasons HaveRisingTags w (blocks (protocol t) (history_in w) ++ count_lines (kinds_in w))
+known_reasons t w e world = subst (λ p. HasTrueReasons HaveRisingTags w (blocks p (history_in w) ++ count_lines (kinds_in w))) e (known-true t w e world)
 
 pub known_texts : (t : TailoringParts) (w : World) → w.session.protocol ≡ protocol t → IsWorld w → IsTrueText w (blocks (protocol t) (history_in w) ++ count_lines (kinds_in w))
-known_texts t w e world = subst (λ p. IsTrueText w (blocks p (history_in w) ++ count_lines (kinds_in w))) e (known-true t w e world)
+known_texts t w e world = (known_reasons t w e world).0
 
 -- what is known after the entries of a world is what is known in it
 pub seen-known : (t : TailoringParts) (w : World) (h : Header) (entries : List Entry) → w.session.protocol ≡ protocol t → IsSeenIn w h entries → known_after (protocol t) h entries ≡ history_in w
@@ -228,9 +269,13 @@ seen-kinds t w h entries e s =
     ∙ ap (λ b. kinds_of w.session.protocol (header_of w.session.known b) (seen entries)) s.1
     ∙ ap (kinds_of w.session.protocol (header_of w.session.known w.session.long)) s.2
 
--- in a world the text of its entries is true
+-- in a world the text of its entries is true, and gives true reasons
+pub reasons_true : (t : TailoringParts) (w : World) (h : Header) (entries : List Entry) → w.session.protocol ≡ protocol t → IsWorld w → IsSeenIn w h entries
+    → HasTrueReasons HaveRisingTags w (text (protocol t) h entries)
+reasons_true t w h entries e world s =
+    subst (λ x. HasTrueReasons HaveRisingTags w (blocks (protocol t) x ++ count_lines (kinds_after (protocol t) h entries))) (sym (seen-known t w h entries e s))
+    (subst (λ x. HasTrueReasons HaveRisingTags w (blocks (protocol t) (history_in w) ++ count_lines x)) (sym (seen-kinds t w h entries e s)) (known_reasons t w e world))
+
 pub texts_true : (t : TailoringParts) (w : World) (h : Header) (entries : List Entry) → w.session.protocol ≡ protocol t → IsWorld w → IsSeenIn w h entries
     → IsTrueText w (text (protocol t) h entries)
-texts_true t w h entries e world s =
-    subst (λ x. IsTrueText w (blocks (protocol t) x ++ count_lines (kinds_after (protocol t) h entries))) (sym (seen-known t w h entries e s))
-    (subst (λ x. IsTrueText w (blocks (protocol t) (history_in w) ++ count_lines x)) (sym (seen-kinds t w h entries e s)) (known_texts t w e world))
+texts_true t w h entries e world s = (reasons_true t w h entries e world s).0

@@ -71,7 +71,10 @@ pub record IsNamed (w : World) (key : Key) (tag k : ℕ) : Type 0 where
   pub greatest : AllByRecursion (λ o. o.tag ≤ opening.tag) (openings_in w key tag)
   pub first : first_open opening ≡ Some k
   pub open_change : IsOpenChange (openings_in w key tag) k
-  pub unsettled : IsFalse (is_settled (tailoring w.session) (history_in w) key tag)
+
+-- a report isn't settled by what the ground knows in a world
+abbrev pub IsUnsettled : World → Key → ℕ → Type 0
+IsUnsettled w key tag = IsFalse (is_settled (tailoring w.session) (history_in w) key tag)
 
 -- The values of a decided report are true: the definition is the one in force, there is one value for each of its places, and each is the sample that the board took there.
 pub record AreTrueRows (w : World) (key : Key) (tag : ℕ) (d : Definition) (rows : List (Place × ℤ)) : Type 0 where
@@ -82,13 +85,27 @@ pub record AreTrueRows (w : World) (key : Key) (tag : ℕ) (d : Definition) (row
   pub values : (row : ℕ) (place : Place) (value : ℤ) → slice_get rows row ≡ Some (place, value)
       → IsTrueValue w key tag d.interval row place.param place.slot value
 
--- What a parameter report's block says is so in a world: its values are true where it is decided; or else it has none, and an open change is named, or no state of the structure is known. No report is impossible.
+-- What a parameter report's block says is so in a world: its values are true where it is decided; or else it has none, and the report isn't settled. No report is impossible.
 abbrev pub IsTrueVerdict : World → Key → ℕ → Verdict → List (Place × ℤ) → Type 0
-IsTrueVerdict w key tag (Decided d) rows = AreTrueRows w key tag d rows × (openings_in w key tag ≢ [])
-IsTrueVerdict w key tag (Undecidable k) rows = IsNamed w key tag k × (rows ≡ [])
-IsTrueVerdict w key tag (Crowded k) rows = IsNamed w key tag k × (rows ≡ [])
-IsTrueVerdict w key tag NoOpening rows = (openings_in w key tag ≡ []) × (rows ≡ [])
+IsTrueVerdict w key tag (Decided d) rows = AreTrueRows w key tag d rows
+IsTrueVerdict w key tag (Undecidable k) rows = IsUnsettled w key tag × (rows ≡ [])
+IsTrueVerdict w key tag (Crowded k) rows = IsUnsettled w key tag × (rows ≡ [])
+IsTrueVerdict w key tag NoOpening rows = IsUnsettled w key tag × (rows ≡ [])
 IsTrueVerdict w key tag Impossible rows = ⊥
+
+-- The reason that a verdict gives is so in a world: the request that is named leaves the report open, and there is no opening exactly where the verdict says so.
+abbrev pub IsTrueReason : World → Key → ℕ → Verdict → Type 0
+IsTrueReason w key tag (Decided d) = openings_in w key tag ≢ []
+IsTrueReason w key tag (Undecidable k) = IsNamed w key tag k
+IsTrueReason w key tag (Crowded k) = IsNamed w key tag k
+IsTrueReason w key tag NoOpening = openings_in w key tag ≡ []
+IsTrueReason w key tag Impossible = ⊥
+
+-- a block of a parameter report gives a true reason; the others give none
+abbrev pub HasTrueReason : World → Block → Type 0
+HasTrueReason w (parameter_block key tag verdict rows) = IsTrueReason w key tag verdict
+HasTrueReason w (statistics_block tag report) = ⊤
+HasTrueReason w (current_block tag report) = ⊤
 
 -- a report with this tag and body is one that the board made, and it was delivered
 pub record IsOfReport (w : World) (tag : ℕ) (body : ReportBody) : Type 0 where
@@ -167,37 +184,42 @@ pub record AreTrueCounts (w : World) (kinds : List GotKind) : Type 0 where
   pub unread : count_by is_unread kinds ≡ 0
   pub stray : count_by is_stray kinds ≡ 0
 
--- A text is true in a world: it is blocks in the order of tags and then counts, each block is true, each report that was delivered and has a block has one, and what is counted is so.
-pub record IsTrueText (w : World) (text : List ℕ) : Type 0 where
-  pub blocks : List Block
-  pub kinds : List GotKind
-  pub lines : text ≡ flat_map (block_lines (tailoring w.session)) blocks ++ count_lines kinds
-  pub order : HaveRisingTags blocks
-  pub each : AllByRecursion (IsTrueBlock w) blocks
-  pub complete : HasEachReport w blocks
-  pub counts : AreTrueCounts w kinds
-
 -- no two blocks have one tag
 abbrev pub HaveDistinctTags : List Block → Type 0
 HaveDistinctTags [] = ⊤
 HaveDistinctTags (b ∷ bs) = AllByRecursion (λ other. block_tag b ≢ block_tag other) bs × HaveDistinctTags bs
 
--- What was written so far is true in a world: it is blocks, each of another report, and each is true.
-pub record IsTrueSoFar (w : World) (text : List ℕ) : Type 0 where
+-- What is written is blocks in an order, and each is true in a world.
+pub record AreTrueBlocks (are_ordered : List Block → Type 0) (w : World) (text : List ℕ) : Type 0 where
   pub blocks : List Block
   pub lines : text ≡ flat_map (block_lines (tailoring w.session)) blocks
-  pub once : HaveDistinctTags blocks
+  pub order : are_ordered blocks
   pub each : AllByRecursion (IsTrueBlock w) blocks
 
--- A text whose blocks were written as they were decided is true in a world: it is blocks, each of another report, and then counts, each block is true, each report that was delivered and has a block has one, and what is counted is so.
-pub record IsTrueFollowing (w : World) (text : List ℕ) : Type 0 where
-  pub blocks : List Block
+-- A text with an order of its blocks is true in a world: it is true blocks in that order and then counts, each report that was delivered and has a block has one, and what is counted is so.
+pub record IsTrueIn (are_ordered : List Block → Type 0) (w : World) (text : List ℕ) : Type 0 where
+  pub front : List ℕ
+  pub written : AreTrueBlocks are_ordered w front
   pub kinds : List GotKind
-  pub lines : text ≡ flat_map (block_lines (tailoring w.session)) blocks ++ count_lines kinds
-  pub once : HaveDistinctTags blocks
-  pub each : AllByRecursion (IsTrueBlock w) blocks
-  pub complete : HasEachReport w blocks
+  pub lines : text ≡ front ++ count_lines kinds
+  pub complete : HasEachReport w written.blocks
   pub counts : AreTrueCounts w kinds
+
+-- a text is true in a world, with its blocks in the order of tags
+abbrev pub IsTrueText : World → List ℕ → Type 0
+IsTrueText = IsTrueIn HaveRisingTags
+
+-- a text whose blocks were written as they were decided is true in a world, each block of another report
+abbrev pub IsTrueFollowing : World → List ℕ → Type 0
+IsTrueFollowing = IsTrueIn HaveDistinctTags
+
+-- what was written so far is true in a world: true blocks, each of another report
+abbrev pub IsTrueSoFar : World → List ℕ → Type 0
+IsTrueSoFar = AreTrueBlocks HaveDistinctTags
+
+-- a text is true in a world, and each of its blocks gives a true reason
+abbrev pub HasTrueReasons : (List Block → Type 0) → World → List ℕ → Type 0
+HasTrueReasons are_ordered w text = (whole : IsTrueIn are_ordered w text) × AllByRecursion (HasTrueReason w) whole.written.blocks
 
 -- the entries of a record are those of a world: what was sent and what was received, in their order
 abbrev pub IsSeenIn : World → Header → List Entry → Type 0

@@ -19,7 +19,7 @@ ghost use Rattle.session_record.specs.declared.header.Header.{Header};
 ghost use Rattle.session_texts.specs.Sessions.{known_after, known_with, kinds_after, kinds_with, entries_problem, record_problem};
 ghost use Rattle.session_texts.specs.Texts.{count_lines, blocks, text};
 ghost use Rattle.session_texts.specs.Follow.{is_decision, followed, follow_text};
-ghost use Rattle.session_texts.specs.Truth.{openings_in, IsTrueVerdict, IsTrueText, IsTrueSoFar, IsTrueFollowing, IsSeenIn, kinds_in};
+ghost use Rattle.session_texts.specs.Truth.{openings_in, IsTrueVerdict, IsTrueReason, HaveRisingTags, HaveDistinctTags, HasTrueReasons, IsTrueText, IsTrueSoFar, IsTrueFollowing, IsSeenIn, kinds_in};
 ghost use Rattle.session_texts.specs.Lines.{HasTrueLines};
 ghost use Rattle.session_texts.specs.Example.{commanded_entries, commanded_text};
 ghost use Rattle.session_texts.specs.declared.problem.RecordProblem.TheVariants as problem;
@@ -41,12 +41,17 @@ pub fn entries_come_one_by_one()
         ≡ option_or (entries_problem p h earlier now) (entries_problem p h (earlier ++ map (λ x. x.1) now) later) }
 {}
 
-/// In every world the text of its entries is true: each block, each value, each count, in the order of tags.
+/// In every world the text of its entries is true: each block, each value, each count, in the order of tags. And the reasons that
+/// it gives are so: each request that is named leaves its report open.
 pub fn texts_are_true()
     ensures entries { (t : TailoringParts) (w : World) (h : Header) (entries : List Entry) → w.session.protocol ≡ protocol t → IsWorld w
         → IsSeenIn w h entries → IsTrueText w (text (protocol t) h entries) }
     ensures known { (t : TailoringParts) (w : World) → w.session.protocol ≡ protocol t → IsWorld w
         → IsTrueText w (blocks (protocol t) (history_in w) ++ count_lines (kinds_in w)) }
+    ensures reasons { (t : TailoringParts) (w : World) (h : Header) (entries : List Entry) → w.session.protocol ≡ protocol t → IsWorld w
+        → IsSeenIn w h entries → HasTrueReasons HaveRisingTags w (text (protocol t) h entries) }
+    ensures known_reasons { (t : TailoringParts) (w : World) → w.session.protocol ≡ protocol t → IsWorld w
+        → HasTrueReasons HaveRisingTags w (blocks (protocol t) (history_in w) ++ count_lines (kinds_in w)) }
 {}
 
 /// In every world each entry is taken, so a record of its entries has no problem but a fault of its format.
@@ -65,17 +70,18 @@ pub fn followed_lines_are_true()
         → IsSeenIn w h entries → IsTrueFollowing w (follow_text (protocol t) h entries) }
     ensures so_far { (t : TailoringParts) (w : World) (h : Header) (earlier later : List Entry) → w.session.protocol ≡ protocol t → IsWorld w
         → IsSeenIn w h (earlier ++ later) → IsTrueSoFar w (followed (protocol t) h (reverse earlier)) }
+    ensures reasons { (t : TailoringParts) (w : World) (h : Header) (entries : List Entry) → w.session.protocol ≡ protocol t → IsWorld w
+        → IsSeenIn w h entries → HasTrueReasons HaveDistinctTags w (follow_text (protocol t) h entries) }
 {}
 
-/// Where what is said of a report is true, a settled report is decided, and it is said that there is no opening exactly where
-/// there is none.
+/// Where what is said of a report is true, a settled report is decided; and where the reason is, it is said that there is no
+/// opening exactly where there is none.
 pub fn true_verdicts()
     ensures settled { (w : World) (key : Key) (tag : ℕ) (v : Verdict) (rows : List (Place × ℤ)) → IsTrueVerdict w key tag v rows
         → IsTrue (is_settled (tailoring w.session) (history_in w) key tag) → IsTrue (is_decision v) }
-    ensures unopened { (w : World) (key : Key) (tag : ℕ) (v : Verdict) (rows : List (Place × ℤ)) → IsTrueVerdict w key tag v rows
+    ensures unopened { (w : World) (key : Key) (tag : ℕ) (v : Verdict) → IsTrueReason w key tag v
         → openings_in w key tag ≡ [] → v ≡ Verdict.NoOpening }
-    ensures opened { (w : World) (key : Key) (tag : ℕ) (rows : List (Place × ℤ)) → IsTrueVerdict w key tag Verdict.NoOpening rows
-        → openings_in w key tag ≡ [] }
+    ensures opened { (w : World) (key : Key) (tag : ℕ) → IsTrueReason w key tag Verdict.NoOpening → openings_in w key tag ≡ [] }
 {}
 
 /// Of a text that is true each line is true, also where only a first part of it was written.

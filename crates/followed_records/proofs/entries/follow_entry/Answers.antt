@@ -6,6 +6,8 @@ use Rattle.followed_records.specs.Following.{FollowsEntry, LeavesRoom, SinkCount
 use Rattle.followed_records.specs.declared.fault.FollowingFault.{FollowingFault}
 use Rattle.followed_records.proofs.FollowingLemmas.{counts_failed, entry_failed}
 use Rattle.followed_records.proofs.RoomLemmas.{failed_room}
+use Rattle.followed_records.specs.Faults.{ByFollowing}
+use Rattle.followed_records.proofs.CauseLemmas.{of_following}
 use Rattle.followed_records.proofs.entries.follow_entry.Goals as goal
 
 pub returns-in-Err-clause-followed : goal.returns-in-Err-clause-followed
@@ -29,3 +31,6 @@ returns-in-Err-clause-room g c =
     let text = followed_text c.args.session c.args.entry.now in
     subst (λ (f : FollowingFault). IfSome before (λ room. length text ≤ room → LeavesRoom (Err f) text room after)) (sym c.of_following.ensures)
     (failed_room text c.in-Err.fault c.args.offset before after c.in-Err.ensures.room)
+
+pub returns-in-Err-clause-causes : goal.returns-in-Err-clause-causes
+returns-in-Err-clause-causes g c = subst (λ (f : FollowingFault). ByFollowing f) (sym c.of_following.ensures) (of_following c.in-Err.fault c.args.offset)

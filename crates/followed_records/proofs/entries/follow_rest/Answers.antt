@@ -1,8 +1,9 @@
-use Rattle.std.proofs.Common.{◌≡◌, ◌+◌, List, ℕ, Option, Ok, Err, arith, refl, rules, sym, ap, subst, ◌∙◌}
+use Rattle.std.proofs.Common.{◌≡◌, ◌+◌, List, ℕ, Option, Some, None, Ok, Err, arith, refl, rules, sym, ap, subst, ◌∙◌}
 use Rattle.std.proofs.lemmas.Result.{err_from_is_err_and}
 use Rattle.std.specs.Prelude.{IsSome}
+use Rattle.program_edge.proofs.ReaderLemmas.{read_out_at_end, read_out_since, told_on}
 use Rattle.session_record.specs.Faults.{lasting}
-use Rattle.session_record.specs.Reading.{Answers, GoesOn, Moves, to_come}
+use Rattle.session_record.specs.Reading.{Answers, GoesOn, HasHeader, Moves, to_come}
 use Rattle.session_record.specs.declared.entry.Entry.{Entry}
 use Rattle.decommutator.specs.Standing.{Decommutation}
 use Rattle.followed_records.specs.Told.{Told}
@@ -10,12 +11,14 @@ use Rattle.followed_records.specs.Following.{told_rest}
 use Rattle.followed_records.proofs.ReadingLemmas.{reading_ends}
 use Rattle.followed_records.proofs.FollowingLemmas.{on_start, on_next, on_until, next_ends}
 use Rattle.followed_records.proofs.RoomLemmas.{room_start, room_next, room_fails, room_end}
+use Rattle.followed_records.proofs.CauseLemmas.{of_reading}
 use Rattle.followed_records.proofs.entries.follow_rest.Goals as goal
 
 pub loop-session-init : goal.loop-session-init
 loop-session-init g c = record {
   followed = on_start c.args.start c.args.reader.now (g.F.Shelf.rest c.args.shelf.now) (g.K.Sink.taken c.args.sink.now);
   room = room_start c.args.start c.args.reader.now (g.F.Shelf.rest c.args.shelf.now) (g.K.Sink.room c.args.sink.now);
+  told = λ h. h;
   few = c.requires.few;
   waiting = c.requires.followed;
   faults = refl;
@@ -82,6 +85,7 @@ loop-session-preserved-in_ok-session g c =
           c.loop-session.invariant.followed answer onward entry;
       room = room_next T (g.F.Shelf.rest c.args.shelf.now) (g.K.Sink.room c.args.sink.now) d c.in_ok-session.session r s rest left (g.K.Sink.room c.loop-session.sink) (g.K.Sink.room c.follow_entry.new.sink) x
           (g.K.Sink.taken c.loop-session.sink) (g.K.Sink.taken c.follow_entry.new.sink) c.loop-session.invariant.room answer entry c.in_ok-session.ensures.room;
+      told = told_on (Ok (Some x)) r s (g.F.Shelf.rest c.args.shelf.now) rest left c.loop-session.invariant.told answer;
       few = omega (arith, entries, moves.3, c.loop-session.invariant.few);
       waiting = subst (λ (y : Decommutation). IsSome y.waiting) (sym entry.1) refl;
       faults = search rules;
@@ -108,6 +112,7 @@ loop-session-preserved-in_ok-session-2 g c =
           c.loop-session.invariant.followed answer onward entry;
       room = room_next T (g.F.Shelf.rest c.args.shelf.now) (g.K.Sink.room c.args.sink.now) d c.in_ok-session.session r s rest left (g.K.Sink.room c.loop-session.sink) (g.K.Sink.room c.follow_entry.new.sink) x
           (g.K.Sink.taken c.loop-session.sink) (g.K.Sink.taken c.follow_entry.new.sink) c.loop-session.invariant.room answer entry c.in_ok-session.ensures.room;
+      told = told_on (Ok (Some x)) r s (g.F.Shelf.rest c.args.shelf.now) rest left c.loop-session.invariant.told answer;
       few = omega (arith, entries, moves.3, c.loop-session.invariant.few);
       waiting = subst (λ (y : Decommutation). IsSome y.waiting) (sym entry.1) refl;
       faults = search rules;
@@ -134,6 +139,7 @@ loop-session-preserved g c =
           c.loop-session.invariant.followed answer onward entry;
       room = room_next T (g.F.Shelf.rest c.args.shelf.now) (g.K.Sink.room c.args.sink.now) d c.in_ok-session.session r s rest left (g.K.Sink.room c.loop-session.sink) (g.K.Sink.room c.follow_entry.new.sink) x
           (g.K.Sink.taken c.loop-session.sink) (g.K.Sink.taken c.follow_entry.new.sink) c.loop-session.invariant.room answer entry c.in_ok-session.ensures.room;
+      told = told_on (Ok (Some x)) r s (g.F.Shelf.rest c.args.shelf.now) rest left c.loop-session.invariant.told answer;
       few = omega (arith, entries, moves.3, c.loop-session.invariant.few);
       waiting = subst (λ (y : Decommutation). IsSome y.waiting) (sym entry.1) refl;
       faults = search rules;
@@ -150,3 +156,18 @@ returns-clause-room g c =
     let answer = subst (λ (o : Option (ℕ × Entry)). Answers (Ok o) r rest s left) c.in_default.is c.in_ok-offset.ensures.answer in
     room_end (λ more. told_rest c.args.start (to_come c.args.reader.now more)) (g.F.Shelf.rest c.args.shelf.now) (g.K.Sink.room c.args.sink.now) c.loop-session.session r s rest left
     (g.K.Sink.room c.loop-session.sink) c.loop-session.invariant.room answer
+
+pub returns-clause-end : goal.returns-clause-end
+returns-clause-end g c =
+    let r = c.loop-session.reader in
+    let s = c.next.new.self in
+    let rest = g.F.Shelf.rest c.loop-session.shelf in
+    let left = g.F.Shelf.rest c.next.new.shelf in
+    let answer = subst (λ (o : Option (ℕ × Entry)). Answers (Ok o) r rest s left) c.in_default.is c.in_ok-offset.ensures.answer in
+    let header = subst (λ (o : Option (ℕ × Entry)). HasHeader (Ok o) s.header) c.in_default.is c.in_ok-offset.ensures.header in
+    read_out_since (g.F.Shelf.rest c.args.shelf.now) rest left c.loop-session.invariant.told (read_out_at_end r s rest left answer header)
+
+pub returns-in_err-offset-clause-causes : goal.returns-in_err-offset-clause-causes
+returns-in_err-offset-clause-causes g c =
+    let p = err_from_is_err_and c.from_residual.result c.from_residual.ensures.1 in
+    rw (p.1, p.2) (of_reading c.in_err-offset.field-0.0)

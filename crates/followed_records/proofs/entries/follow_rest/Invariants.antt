@@ -11,6 +11,7 @@ abbrev pub invariant-loop-session : goal.invariant-loop-session
 invariant-loop-session g l = record {
   followed : KeepsOn (λ more. told_rest l.fn.start (to_come l.fn.reader more)) (g.F.Shelf.rest l.fn.shelf) l.session l.reader (g.F.Shelf.rest l.shelf) (g.K.Sink.taken l.fn.sink) (g.K.Sink.taken l.sink);
   room : KeepsRoom (λ more. told_rest l.fn.start (to_come l.fn.reader more)) (g.F.Shelf.rest l.fn.shelf) (g.K.Sink.room l.fn.sink) l.session l.reader (g.F.Shelf.rest l.shelf) (g.K.Sink.room l.sink);
+  told : IsSome (g.F.Shelf.rest l.fn.shelf) → IsSome (g.F.Shelf.rest l.shelf);
   few : l.session.standing.entries + l.reader.room ≤ most_entries;
   waiting : IsSome l.session.waiting;
   faults : g.F.Shelf.faults l.shelf ≡ g.F.Shelf.faults l.fn.shelf;

@@ -2,13 +2,15 @@ use Rattle.std.proofs.Common.{ℕ, Option, Some, None, Ok, Err, ap, subst, ◌�
 use Rattle.std.proofs.lemmas.Result.{err_from_is_err_and}
 use Rattle.session_record.specs.Faults.{lasting}
 use Rattle.session_record.specs.Records.{read_record}
-use Rattle.session_record.specs.Reading.{Reading, Answers, GoesOn, reading_at_start}
+use Rattle.session_record.specs.Reading.{Reading, Answers, GoesOn, HasHeader, reading_at_start}
 use Rattle.session_record.specs.declared.entry.Entry.{Entry}
+use Rattle.program_edge.proofs.ReaderLemmas.{read_out_at_end, told_on}
 use Rattle.followed_records.specs.Told.{told}
 use Rattle.followed_records.specs.Following.{IsUnfailed}
 use Rattle.followed_records.proofs.ToldLemmas.{IsPromised, start_of, told_start}
 use Rattle.followed_records.proofs.ReadingLemmas.{reading_ends}
 use Rattle.followed_records.proofs.StartLemmas.{first_follows, first_room, none_closes, none_room, nothing_yet, IsNewUnder}
+use Rattle.followed_records.proofs.CauseLemmas.{of_reading, on_any, on_since}
 use Rattle.followed_records.proofs.following.follow_record.Goals as goal
 
 pub returns-in_err-first-clause-followed : goal.returns-in_err-first-clause-followed
@@ -83,3 +85,28 @@ returns-clause-room g c =
     let answer = subst (λ (r : Reading). Answers (Ok (Some x)) r rest q left) c.in_ok-reader.ensures
     (subst (λ (o : Option (ℕ × Entry)). Answers (Ok o) c.in_ok-reader.reader rest q left) c.in-Some.is c.in_ok-first.ensures.answer) in
     first_room laws t rest left (g.K.Sink.room c.args.sink.now) q d x (IsUnfailed c.follow_from.result) answer new c.follow_from.ensures.room
+
+pub returns-in-None-clause-end : goal.returns-in-None-clause-end
+returns-in-None-clause-end g c =
+    let rest = g.F.Shelf.rest c.args.shelf.now in
+    let left = g.F.Shelf.rest c.next.new.shelf in
+    let r = c.in_ok-reader.reader in
+    let q = c.next.new.self in
+    let answer = subst (λ (o : Option (ℕ × Entry)). Answers (Ok o) r rest q left) c.in-None.is c.in_ok-first.ensures.answer in
+    let header = subst (λ (o : Option (ℕ × Entry)). HasHeader (Ok o) q.header) c.in-None.is c.in_ok-first.ensures.header in
+    on_any c.close.result _ (read_out_at_end r q rest left answer header)
+
+pub returns-in_err-first-clause-causes : goal.returns-in_err-first-clause-causes
+returns-in_err-first-clause-causes g c =
+    let p = err_from_is_err_and c.from_residual-in_err-first.result c.from_residual-in_err-first.ensures.1 in
+    rw (p.1, p.2) (of_reading c.in_err-first.field-0.0)
+
+pub returns-clause-end : goal.returns-clause-end
+returns-clause-end g c =
+    let rest = g.F.Shelf.rest c.args.shelf.now in
+    let left = g.F.Shelf.rest c.next.new.shelf in
+    let r = c.in_ok-reader.reader in
+    let q = c.next.new.self in
+    let x : ℕ × Entry = (c.in-Some.offset, c.in-Some.entry) in
+    let answer = subst (λ (o : Option (ℕ × Entry)). Answers (Ok o) r rest q left) c.in-Some.is c.in_ok-first.ensures.answer in
+    on_since c.follow_from.result rest left (g.F.Shelf.rest c.follow_from.new.shelf) (told_on (Ok (Some x)) r q rest rest left (λ h. h) answer) c.follow_from.ensures.end

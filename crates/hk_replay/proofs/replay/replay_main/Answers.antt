@@ -1,27 +1,53 @@
 use Rattle.std.proofs.Common.{map}
 use Rattle.std.specs.String.{string_bytes}
+use Rattle.session_texts.specs.Truth.{IsTrueText, IsTrueFollowing, HaveRisingTags, HaveDistinctTags, HasTrueReasons}
 use Rattle.hk_replay.specs.Words.{command_of}
-use Rattle.hk_replay.proofs.HeadlineLemmas.{true_words}
-use Rattle.hk_replay.proofs.FollowedLemmas.{true_follow}
+use Rattle.hk_replay.proofs.HeadlineLemmas.{run_of}
+use Rattle.hk_replay.proofs.FollowedLemmas.{follow_of}
 use Rattle.hk_replay.proofs.replay.replay_main.Goals as goal
 
 pub returns-clause-headline : goal.returns-clause-headline
 returns-clause-headline g c =
     λ w world t spoken octets r is.
-    true_words (command_of (map string_bytes c.args.words.now)) (g.F.Shelf.files c.args.shelf.now) c.run.result (g.K.Sink.taken c.args.sink.now) (g.K.Sink.taken c.run.new.sink) c.run.ensures.output t w
+    run_of (command_of (map string_bytes c.args.words.now)) (g.F.Shelf.files c.args.shelf.now) c.run.result (g.K.Sink.taken c.args.sink.now) (g.K.Sink.taken c.run.new.sink) c.run.ensures.output t w
+    (IsTrueText w)
     (record {
       taken = λ h entries seen. c.records_of_worlds_have_no_problem.ensures.entries t w h entries spoken world seen;
-      is_true = λ h entries seen. c.texts_are_true.ensures.entries t w h entries spoken world seen;
+      is_so = λ h entries seen. c.texts_are_true.ensures.entries t w h entries spoken world seen;
+    })
+    octets r is
+
+pub returns-clause-reasons : goal.returns-clause-reasons
+returns-clause-reasons g c =
+    λ w world t spoken octets r is.
+    run_of (command_of (map string_bytes c.args.words.now)) (g.F.Shelf.files c.args.shelf.now) c.run.result (g.K.Sink.taken c.args.sink.now) (g.K.Sink.taken c.run.new.sink) c.run.ensures.output t w
+    (HasTrueReasons HaveRisingTags w)
+    (record {
+      taken = λ h entries seen. c.records_of_worlds_have_no_problem.ensures.entries t w h entries spoken world seen;
+      is_so = λ h entries seen. c.texts_are_true.ensures.reasons t w h entries spoken world seen;
     })
     octets r is
 
 pub returns-clause-following : goal.returns-clause-following
 returns-clause-following g c =
     λ w world t spoken octets r is.
-    true_follow (command_of (map string_bytes c.args.words.now)) (g.F.Shelf.files c.args.shelf.now) c.run.result (g.K.Sink.taken c.args.sink.now) (g.K.Sink.taken c.run.new.sink) c.run.ensures.output t w
+    follow_of (command_of (map string_bytes c.args.words.now)) (g.F.Shelf.files c.args.shelf.now) c.run.result (g.K.Sink.taken c.args.sink.now) (g.K.Sink.taken c.run.new.sink) c.run.ensures.output t w
+    (IsTrueFollowing w)
     (record {
       taken = λ h entries seen. c.records_of_worlds_have_no_problem.ensures.entries t w h entries spoken world seen;
-      is_true = λ h entries seen. c.followed_lines_are_true.ensures.whole t w h entries spoken world seen;
+      is_so = λ h entries seen. c.followed_lines_are_true.ensures.whole t w h entries spoken world seen;
       lines = λ text more whole. c.lines_are_true.ensures.following w text more whole;
+    })
+    octets r is
+
+pub returns-clause-following_reasons : goal.returns-clause-following_reasons
+returns-clause-following_reasons g c =
+    λ w world t spoken octets r is.
+    follow_of (command_of (map string_bytes c.args.words.now)) (g.F.Shelf.files c.args.shelf.now) c.run.result (g.K.Sink.taken c.args.sink.now) (g.K.Sink.taken c.run.new.sink) c.run.ensures.output t w
+    (HasTrueReasons HaveDistinctTags w)
+    (record {
+      taken = λ h entries seen. c.records_of_worlds_have_no_problem.ensures.entries t w h entries spoken world seen;
+      is_so = λ h entries seen. c.followed_lines_are_true.ensures.reasons t w h entries spoken world seen;
+      lines = λ text more whole. c.lines_are_true.ensures.following w text more whole.0;
     })
     octets r is

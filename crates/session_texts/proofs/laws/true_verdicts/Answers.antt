@@ -8,4 +8,4 @@ pub returns-clause-unopened : goal.returns-clause-unopened
 returns-clause-unopened c = unopened_said
 
 pub returns-clause-opened : goal.returns-clause-opened
-returns-clause-opened c = λ w key tag rows h. h.0
+returns-clause-opened c = λ w key tag h. h

@@ -1,5 +1,5 @@
 use Rattle.std.proofs.Common.{◌∙◌, Err, refl, ap, sym, subst}
-use Rattle.std.specs.Prelude.{◌≡◌, List, Result, Option, ℕ}
+use Rattle.std.specs.Prelude.{◌≡◌, List, Option, ℕ}
 use Rattle.session_record.specs.Reading.{Reading, AreTaken, HasHeader, IsWithin, TakesFew, HoldsLess, octets_taken}
 use Rattle.session_record.specs.declared.entry.RecordFault.{RecordFault}
 use Rattle.session_record.proofs.WithinLemmas.{taken-then, taken-same, few-self}

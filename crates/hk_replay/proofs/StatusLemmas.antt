@@ -238,7 +238,7 @@ followed_given told (Some octets) left before after f follows = λ is. as_given 
 -- what was made of a file that was selected is what is told of it
 pub told_selected : (files : Option (List (List ℕ × List ℕ))) (name : List ℕ) (rest : Option (List ℕ)) (P : List ℕ → Type 0) → Selects files name rest → IfSome rest P → IfSome (octets_of files name) P
 told_selected None name rest P selects holds = tt
-told_selected (Some all) name rest P selects holds = subst (λ o. IfSome o P) selects.1 holds
+told_selected (Some all) name rest P selects holds = subst (λ (o : Option (List ℕ)). IfSome o P) selects.1 holds
 
 -- what ended a run on lines that were selected
 pub lines_selected : (f : RunFault) (t : TailoringParts) (files : Option (List (List ℕ × List ℕ))) (name : List ℕ) (rest : Option (List ℕ)) → Selects files name rest
@@ -252,13 +252,13 @@ lines_selected f t files name rest selects is = told_selected files name rest (�
 -- a record that was selected and trimmed was read to its end or a cut
 pub whole_read : (files : Option (List (List ℕ × List ℕ))) (name : List ℕ) (rest left : Option (List ℕ)) → Selects files name rest → HasReadWhole rest left → HasReadWhole (octets_of files name) left
 whole_read None name rest left selects read = tt
-whole_read (Some all) name rest left selects read = subst (λ o. HasReadWhole o left) selects.1 read
+whole_read (Some all) name rest left selects read = subst (λ (o : Option (List ℕ)). HasReadWhole o left) selects.1 read
 
 -- how far a shelf was moved in a tailoring, and then in another input
 pub moved_then : (most : ℕ) (files now : Option (List (List ℕ × List ℕ))) (tailoring : TailoringName) (name : List ℕ) (before mid left : Option (List ℕ)) → now ≡ files
     → MovesIn files tailoring before mid → (left ≡ mid) ⊎ TakesAtMost most (octets_of now name) left → MovesIn files tailoring before left ⊎ TakesAtMost most (octets_of files name) left
-moved_then most files now tailoring name before mid left same moves (inl stays) = inl (subst (λ o. MovesIn files tailoring before o) (sym stays) moves)
-moved_then most files now tailoring name before mid left same moves (inr takes) = inr (subst (λ fs. TakesAtMost most (octets_of fs name) left) same takes)
+moved_then most files now tailoring name before mid left same moves (inl stays) = inl (subst (λ (o : Option (List ℕ)). MovesIn files tailoring before o) (sym stays) moves)
+moved_then most files now tailoring name before mid left same moves (inr takes) = inr (subst (λ (fs : Option (List (List ℕ × List ℕ))). TakesAtMost most (octets_of fs name) left) same takes)
 
 -- a run that ended while it read isn't done
 pub undone_reading : (s : ReplayStatus) → IsReadingStatus s → s ≡ status.Done → ⊥

@@ -1,0 +1,5 @@
+pub mod Fronts
+pub mod Arrivals
+pub mod Reporting
+pub mod Opening
+pub mod Standing

@@ -6,3 +6,5 @@ pub mod ReportLemmas
 pub mod ReportNumbers
 pub mod OpeningLemmas
 pub mod StandingLemmas
+pub mod OpenedLemmas
+pub mod RecordLemmas

@@ -1,5 +1,5 @@
 -- What a link holds by numbers, as packets.
-use Rattle.std.proofs.Common.{arith, zero, suc, ◌≡◌, ◌+◌, ◌≤◌, ◌<◌, ℕ, Bool, true, false, List, [], ◌∷◌, ◌++◌, length, drop, map, Option, Some, None, Result, Ok, Err, refl, sym, ap, ap₂, subst, ◌∙◌, append_assoc}
+use Rattle.std.proofs.Common.{arith, zero, suc, ◌≡◌, ◌+◌, ◌≤◌, ◌<◌, ℕ, Bool, true, false, List, [], ◌∷◌, ◌++◌, length, length-append, drop, map, Option, Some, None, Result, Ok, Err, refl, sym, ap, ap₂, subst, ◌∙◌, append_assoc}
 use Rattle.std.specs.Prelude.{◌==◌, filter, slice_get, flat_map, IfOk, OnOk, if◌then◌else◌}
 use Rattle.std.specs.Option.{option_map_or}
 use Rattle.std.specs.List.{AllByRecursion}
@@ -36,7 +36,7 @@ use Rattle.run_slots.proofs.ReportNumbers.{reports-named, moment-at, moments-beh
 use Rattle.run_slots.proofs.RisingLemmas.{front-of, next-of, none-first, of_slot}
 
 -- what arrives doesn't depend on how packets are known
-pub Renames : Type 0
+abbrev pub Renames : Type 0
 Renames =
     (f : Direction → ℕ → List ℕ) → (s : Settings) → (d : Direction) → (slot : ℕ) → (given : List (Given ℕ)) → arrivals s d slot (map (renamed f) given) ≡ map (f d) (arrivals s d slot given)
 
@@ -81,7 +81,7 @@ reports-known journal t slot n (m ∷ ms) e = by (has_packet m) (reports-known j
   where
     by : (b : Bool) → AllByRecursion (HasMoment journal) (reports_numbered t slot (n + 1) ms)
         → AllByRecursion (HasMoment journal) (if b then report_numbered t slot n m ∷ reports_numbered t slot (n + 1) ms else reports_numbered t slot (n + 1) ms)
-    by true later = (λ e. slice_get-within journal n m (moment-at journal n m ms e), later)
+    by true later = (λ d. slice_get-within journal n m (moment-at journal n m ms e), later)
     by false later = later
 
 -- what is sent in a slot, by numbers and as packets
@@ -218,3 +218,9 @@ closes t s slots journal before moments slot next from link after is e same give
     all =
         append_assoc (given_in t s slots) (requests_given s slot) (reports_given t slot moments)
         ∙ ap (λ n. given_in t s slots ++ (requests_given s n ++ reports_given t n moments)) was.number
+
+pub closes-ok : (t : TailoringParts) (s : Script) (slots : List (List Moment)) (journal before moments : List Moment) (slot next from : ℕ) (link after : Link) (result : Result Unit Memory)
+    → journal ≡ before ++ moments → from ≡ length before → after.settings ≡ link.settings → OnOk result (IsGiven (reports_numbered t slot from (drop from journal)) link after)
+    → IsInSlot t s slots before slot next link → OnOk result (IsBeforeSlot t s (moments ∷ slots) journal (slot + 1) next after)
+closes-ok t s slots journal before moments slot next from link after (Ok done) is e same given was = closes t s slots journal before moments slot next from link after is e same given was
+closes-ok t s slots journal before moments slot next from link after (Err f) is e same given was = tt

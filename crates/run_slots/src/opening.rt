@@ -62,8 +62,15 @@ pub fn open_slot<K: Sink>(
 {
     // A law: it does nothing.
     numbers_stand_for_packets();
-    let sendings = script.sendings.as_slice();
-    open_lines(alloc, sendings, journal, slot, next, link, sink)
+    open_lines(
+        alloc,
+        script.sendings.as_slice(),
+        journal,
+        slot,
+        next,
+        link,
+        sink,
+    )
 }
 
 /// Opens a slot over the lines of a script. Packets are known by numbers.

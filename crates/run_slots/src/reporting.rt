@@ -22,9 +22,23 @@ pub fn give_reports(
     link: &mut Link,
 ) -> Result<(), Memory>
     requires { AllByRecursion (λ m. m.tag < 2 ^ 63) journal.now }
-    ensures given { OnOk result (IsGiven (reports_numbered tailoring.now slot from (drop from journal.now)) link.old link.new) }
-    ensures closed { (s : Script) (slots : List (List Moment)) (before moments : List Moment) (next : ℕ) → journal.now ≡ before ++ moments → from ≡ length before
+    ensures { (s : Script) (slots : List (List Moment)) (before moments : List Moment) (next : ℕ) → journal.now ≡ before ++ moments → from ≡ length before
         → IsInSlot tailoring.now s slots before slot next link.old → OnOk result (IsBeforeSlot tailoring.now s (moments ∷ slots) journal.now (slot + 1) next link.new) }
+{
+    give_moments(tailoring, journal, slot, from, link)
+}
+
+/// Gives the link the packets of the moments of a journal from a number on. Their numbers stand for them.
+fn give_moments(
+    tailoring: &Tailoring,
+    journal: &Journal,
+    slot: u32,
+    from: u32,
+    link: &mut Link,
+) -> Result<(), Memory>
+    requires { AllByRecursion (λ m. m.tag < 2 ^ 63) journal.now }
+    ensures settings { link.new.settings ≡ link.old.settings }
+    ensures given { OnOk result (IsGiven (reports_numbered tailoring.now slot from (drop from journal.now)) link.old link.new) }
 {
     let mut number = from;
     'moments: while number < journal.len() {

@@ -85,4 +85,4 @@ returns-in-Ok-clause-uplinks g c = λ given held.
     ∙ (c.take-due.ensures.arrived c.args.slot (given ++ more) within sent
     ∙ (ap (λ n. arrivals c.send_slot.new.link.settings Request n (given ++ more)) c.from-2.ensures
     ∙ ap (λ (s : Settings). arrivals s Request c.args.slot (given ++ more)) same)) in
-    c.in-Ok.ensures ∙ ap (map (requested c.args.sendings.now)) due
+    c.in-Ok.ensures.packets ∙ ap (map (requested c.args.sendings.now)) due

@@ -2,12 +2,12 @@
 use Rattle.std.proofs.Common.{arith, zero, suc, ◌≡◌, ◌+◌, ℕ, Bool, true, false, List, [], ◌∷◌, drop, map, Option, Some, None, refl, sym, ap, ◌∙◌}
 use Rattle.std.specs.Prelude.{◌==◌, slice_get, if◌then◌else◌}
 use Rattle.std.specs.Option.{option_map_or}
-use Rattle.simulated_link.specs.Links.{Given, renamed}
+use Rattle.simulated_link.specs.Links.{renamed}
 use Rattle.simulated_link.specs.declared.settings.Direction.{Direction}
 use Rattle.simulated_link.specs.declared.settings.Direction.TheVariants.{Request}
 use Rattle.board_scripts.specs.declared.script.Sending.{Sending}
 use Rattle.board_runs.specs.Slots.{request_given}
-use Rattle.run_slots.specs.Fronts.{front, numbered, numbers}
+use Rattle.run_slots.specs.Fronts.{front, numbers}
 use Rattle.run_slots.specs.Arrivals.{requested}
 
 -- a list begins with another

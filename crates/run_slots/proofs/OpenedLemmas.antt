@@ -4,10 +4,9 @@ use Rattle.std.specs.Prelude.{IfOk, OnOk}
 use Rattle.hk_base.specs.TailoringParts.{TailoringParts}
 use Rattle.hk_world.specs.declared.moment.Moment.{Moment}
 use Rattle.session_record.specs.declared.entry.WriteFault.{WriteFault}
-use Rattle.simulated_link.specs.Links.{Given, arrivals}
+use Rattle.simulated_link.specs.Links.{arrivals}
 use Rattle.simulated_link.specs.Holding.{IsHeld}
 use Rattle.simulated_link.specs.declared.link.Link.{Link}
-use Rattle.simulated_link.specs.declared.settings.Direction.{Direction}
 use Rattle.simulated_link.specs.declared.settings.Direction.TheVariants.{Request, Report}
 use Rattle.board_scripts.specs.Spelling.{AreSent}
 use Rattle.board_scripts.specs.declared.script.Script.{Script}

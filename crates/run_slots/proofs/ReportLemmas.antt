@@ -1,6 +1,6 @@
 -- Reports that are given to the link, one after the other.
-use Rattle.std.proofs.Common.{arith, suc, ◌≡◌, ◌+◌, ◌≤◌, ℕ, Bool, true, false, List, [], ◌∷◌, ◌++◌, length, drop, Some, Result, Ok, Err, refl, sym, ap, subst, ◌∙◌, append_assoc, append-nil}
-use Rattle.std.specs.Prelude.{◌==◌, not, OnOk, slice_get, if◌then◌else◌}
+use Rattle.std.proofs.Common.{arith, suc, ◌≡◌, ◌+◌, ◌≤◌, ℕ, Bool, true, false, List, [], ◌∷◌, ◌++◌, length, drop, Some, Result, Ok, Err, refl, sym, ap, subst, ◌∙◌}
+use Rattle.std.specs.Prelude.{OnOk, slice_get, if◌then◌else◌}
 use Rattle.std.proofs.Math.ListN.{drop_of_length-le}
 use Rattle.hk_base.specs.TailoringParts.{TailoringParts}
 use Rattle.hk_base.specs.Fit.{slot_of}

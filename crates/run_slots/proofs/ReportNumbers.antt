@@ -1,11 +1,11 @@
 -- The packets of the numbers under which reports are given to the link.
-use Rattle.std.proofs.Common.{arith, zero, suc, ◌≡◌, ◌+◌, ℕ, Bool, true, false, List, [], ◌∷◌, drop, map, Option, Some, None, refl, sym, ap, ◌∙◌}
+use Rattle.std.proofs.Common.{arith, zero, suc, ◌≡◌, ◌+◌, ℕ, Bool, true, false, List, [], ◌∷◌, drop, map, Option, Some, None, refl, ap, ◌∙◌}
 use Rattle.std.specs.Prelude.{slice_get, filter, if◌then◌else◌}
 use Rattle.std.specs.Option.{option_map_or}
 use Rattle.hk_base.specs.TailoringParts.{TailoringParts}
 use Rattle.hk_base.specs.Fit.{slot_of}
 use Rattle.hk_world.specs.declared.moment.Moment.{Moment}
-use Rattle.simulated_link.specs.Links.{Given, renamed}
+use Rattle.simulated_link.specs.Links.{renamed}
 use Rattle.simulated_link.specs.declared.settings.Direction.{Direction}
 use Rattle.simulated_link.specs.declared.settings.Direction.TheVariants.{Report}
 use Rattle.run_slots.specs.Arrivals.{reported}

@@ -1,6 +1,6 @@
 -- What a link holds by numbers, as packets.
-use Rattle.std.proofs.Common.{arith, zero, suc, ◌≡◌, ◌+◌, ◌≤◌, ◌<◌, ℕ, Bool, true, false, List, [], ◌∷◌, ◌++◌, length, length-append, drop, map, Option, Some, None, Result, Ok, Err, refl, sym, ap, ap₂, subst, ◌∙◌, append_assoc}
-use Rattle.std.specs.Prelude.{◌==◌, filter, slice_get, flat_map, IfOk, OnOk, if◌then◌else◌}
+use Rattle.std.proofs.Common.{arith, zero, suc, ◌≡◌, ◌+◌, ◌<◌, ℕ, Bool, true, false, List, [], ◌∷◌, ◌++◌, length, length-append, drop, map, Result, Ok, Err, refl, sym, ap, ap₂, subst, ◌∙◌, append_assoc}
+use Rattle.std.specs.Prelude.{slice_get, flat_map, OnOk, if◌then◌else◌}
 use Rattle.std.specs.Option.{option_map_or}
 use Rattle.std.specs.List.{AllByRecursion}
 use Rattle.std.proofs.Math.Seq.{drop-append_seam}
@@ -12,9 +12,7 @@ use Rattle.hk_base.specs.declared.types.Memory.{Memory}
 use Rattle.hk_base.proofs.Membership.{AllByRecursion-append}
 use Rattle.hk_world.specs.declared.moment.Moment.{Moment}
 use Rattle.session_record.specs.Records.{entry_octets}
-use Rattle.session_record.specs.declared.entry.Entry.{Entry}
 use Rattle.session_record.specs.declared.entry.Entry.TheVariants.{Sent, Got}
-use Rattle.session_record.specs.declared.entry.WriteFault.{WriteFault}
 use Rattle.simulated_link.specs.Links.{Given, arrivals, renamed}
 use Rattle.simulated_link.specs.Holding.{IsHeld}
 use Rattle.simulated_link.specs.declared.link.Link.{Link}
@@ -24,11 +22,11 @@ use Rattle.simulated_link.specs.declared.settings.Direction.TheVariants.{Request
 use Rattle.board_scripts.specs.Spelling.{AreSent}
 use Rattle.board_scripts.specs.declared.script.Script.{Script}
 use Rattle.board_scripts.specs.declared.script.Sending.{Sending}
-use Rattle.board_runs.specs.Slots.{has_packet, sent_in, request_given, report_given, requests_given, reports_given, given_in, deliveries, uplinks}
+use Rattle.board_runs.specs.Slots.{has_packet, sent_in, request_given, requests_given, reports_given, given_in, deliveries, uplinks}
 use Rattle.board_runs.proofs.ListLemmas.{map-twice, slice_get-within}
-use Rattle.board_runs.proofs.UplinkLemmas.{AreRising, sent-rising}
+use Rattle.board_runs.proofs.UplinkLemmas.{sent-rising}
 use Rattle.run_slots.specs.Arrivals.{got_entries, reported, requested}
-use Rattle.run_slots.specs.Fronts.{front, numbered, numbers, sent_entries, IsGiven}
+use Rattle.run_slots.specs.Fronts.{front, numbers, sent_entries, IsGiven}
 use Rattle.run_slots.specs.Reporting.{report_numbered, reports_numbered}
 use Rattle.run_slots.specs.Standing.{packet_of, HasMoment, HoldsPackets, IsBeforeSlot, IsInSlot, opening_octets}
 use Rattle.run_slots.proofs.NumberLemmas.{front-named}

@@ -1,11 +1,10 @@
-use Rattle.std.proofs.Common.{rules, arith, ◌≡◌, ◌+◌, ◌≤◌, ◌++◌, List, ℕ, Result, Ok, Err, drop, map, subst, sym, ap, ◌∙◌}
+use Rattle.std.proofs.Common.{arith, ◌≡◌, ◌+◌, ◌≤◌, ◌++◌, Ok, Err, drop, map, subst, sym, ap, ◌∙◌}
 use Rattle.std.proofs.lemmas.Result.{err_from_is_err_and}
-use Rattle.session_record.specs.declared.entry.WriteFault.{WriteFault}
-use Rattle.simulated_link.specs.Links.{Given, arrivals}
+use Rattle.simulated_link.specs.Links.{arrivals}
 use Rattle.simulated_link.specs.Holding.{IsHeld}
 use Rattle.simulated_link.specs.declared.settings.Settings.{Settings}
 use Rattle.simulated_link.specs.declared.settings.Direction.TheVariants.{Request, Report}
-use Rattle.run_records.specs.Putting.{HasPut, HasFailed, Puts, as_seen}
+use Rattle.run_records.specs.Putting.{HasPut, HasFailed, as_seen}
 use Rattle.run_records.proofs.PuttingLemmas.{puts-then}
 use Rattle.run_slots.specs.Arrivals.{got_entries, requested}
 use Rattle.run_slots.specs.Fronts.{front, numbers, sent_entries}

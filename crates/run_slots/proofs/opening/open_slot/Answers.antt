@@ -1,4 +1,4 @@
-use Rattle.std.proofs.Common.{◌≡◌, ◌++◌, ◌+◌, ◌≤◌, ℕ, List, Result, drop, length, map, subst}
+use Rattle.std.proofs.Common.{◌≡◌, ◌++◌, ◌+◌, List, drop, length, map, subst}
 use Rattle.std.specs.Prelude.{IfOk, OnOk}
 use Rattle.simulated_link.specs.Links.{arrivals}
 use Rattle.simulated_link.specs.Holding.{IsHeld}

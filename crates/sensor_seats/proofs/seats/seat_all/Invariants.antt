@@ -1,4 +1,4 @@
-use Rattle.std.proofs.Common.{◌≡◌, ◌≤◌, ◌+◌, ◌++◌, [], length, map}
+use Rattle.std.proofs.Common.{◌≡◌, ◌≤◌, ◌+◌, ◌++◌, [], map}
 use Rattle.std.specs.Prelude.{reverse, vec_len, vec_capacity}
 use Rattle.std.specs.List.{AllByRecursion}
 use Rattle.sensor_seats.proofs.seats.seat_all.Given as goal
@@ -14,4 +14,4 @@ invariant-loop-sensor g l = record {
 }
 
 abbrev pub decreases-loop-sensor : goal.decreases-loop-sensor
-decreases-loop-sensor g l = goal.left-loop-sensor g l
+decreases-loop-sensor g l = vec_len l.sensors

@@ -1,4 +1,3 @@
-use Rattle.std.proofs.Common.{rules}
 use Rattle.sensor_seats.proofs.SeatLemmas.{seated, settled}
 use Rattle.sensor_seats.proofs.seats.seat_sensors.Goals as goal
 

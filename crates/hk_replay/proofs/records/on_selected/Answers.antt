@@ -3,7 +3,7 @@ use Rattle.std.specs.Prelude.{IfSome}
 use Rattle.hk_replay.specs.Asked.{asked_of_record}
 use Rattle.hk_replay.specs.Outcomes.{outcome_text, record_outcome}
 use Rattle.hk_replay.specs.declared.words.RecordCommand.{RecordCommand}
-use Rattle.hk_replay.proofs.replay.on_selected.Goals as goal
+use Rattle.hk_replay.proofs.records.on_selected.Goals as goal
 
 pub returns-in-Show-clause-room : goal.returns-in-Show-clause-room
 returns-in-Show-clause-room g c =

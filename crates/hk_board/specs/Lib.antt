@@ -1,0 +1,5 @@
+pub mod Words
+pub mod Faults
+pub mod Inputs
+pub mod Progress
+pub mod Outputs

@@ -5,15 +5,31 @@ use Rattle.hk_world.specs.declared.moment.Moment.{Moment}
 use Rattle.session_record.specs.declared.entry.WriteFault.{WriteFault as Unwritten}
 use Rattle.session_record.specs.declared.entry.WriteFault.TheVariants as write
 use Rattle.board_steps.specs.Cores.{Core}
-use Rattle.board_steps.specs.SlotRuns.{Ahead, IsStopped}
+use Rattle.board_steps.specs.SlotRuns.{Ahead, IsSlot, IsPart, IsStopped}
 use Rattle.board_steps.specs.declared.event.BoardFault.{BoardFault}
 use Rattle.simulated_link.specs.declared.link.Link.{Link}
 use Rattle.board_scripts.specs.declared.script.Script.{Script}
-use Rattle.run_records.specs.Putting.{Seen, HasPut, HasFailed}
-use Rattle.board_runs.specs.Runs.{HasRun, IsRun, IsCut, IsRecordOfRun, IsRecordOfCut, record_of}
+use Rattle.run_records.specs.Putting.{Seen, HasPut, HasFailed, lines_of}
+use Rattle.board_runs.specs.Runs.{HasDone, HasRun, IsRun, IsCut, IsRecordOfRun, IsRecordOfCut, record_of}
 use Rattle.run_slots.specs.Standing.{IsBeforeSlot}
 use Rattle.hk_board.specs.declared.status.BoardStatus.{BoardStatus}
 use Rattle.hk_board.specs.declared.status.BoardStatus.TheVariants.{WriteFault, NoMemory, Board}
+
+-- some first steps of a slot with these uplinks, what they did, and what is ahead then
+abbrev pub DoesPart : List (List ℕ) → Core → List Moment → Ahead → Core → Type 0
+DoesPart uplinks before moments ahead after = IsPart uplinks before ahead after × HasDone before moments after
+
+-- A slot with these uplinks was run and its moments were written; or some first steps of it, and what they did was written, or a first part of that.
+abbrev pub RunsTo : List (List ℕ) → Core → Core → Result Unit BoardStatus → Seen → Seen → Type 0
+RunsTo uplinks before after (Ok done) was now =
+    IsSlot uplinks before after × ((moments : List Moment) × HasDone before moments after × HasPut (lines_of moments) was now)
+RunsTo uplinks before after (Err WriteFault) was now =
+    (moments : List Moment) × (ahead : Ahead) × DoesPart uplinks before moments ahead after × HasFailed (lines_of moments) write.Failed was now
+RunsTo uplinks before after (Err NoMemory) was now =
+    (moments : List Moment) × (ahead : Ahead) × DoesPart uplinks before moments ahead after × HasFailed (lines_of moments) write.Memory was now
+RunsTo uplinks before after (Err (Board fault)) was now =
+    (moments : List Moment) × (ahead : Ahead) × DoesPart uplinks before moments ahead after × IsStopped ahead after fault × HasPut (lines_of moments) was now
+RunsTo uplinks before after (Err status) was now = ⊥
 
 module _ (t : TailoringParts) (s : Script) (start : Seen) where
   -- A run before the slot after some: its record so far was written, and all of its moments are in that.

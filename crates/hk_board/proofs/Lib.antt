@@ -1,0 +1,4 @@
+pub mod TextLemmas
+pub mod StepLemmas
+pub mod SeatLemmas
+pub mod EndLemmas

@@ -83,8 +83,8 @@ module _ (t : TailoringParts) (s : Script) (law : Extends t s) (start : Seen) (s
       breaks write.Failed now moments ahead after done (behind first mid put opened moments (Err write.Failed) now failed)
   unended NoMemory after first mid now put opened (moments, ahead, done, failed) =
       breaks write.Memory now moments ahead after done (behind first mid put opened moments (Err write.Memory) now failed)
-  unended (Board fault) after first mid now put opened (moments, ahead, done, stopped, written) =
-      (slots, moments, ahead, after, cut moments ahead after done, stopped,
+  unended (Board fault) after first mid now put opened (moments, ahead, done, of_board, stopped, written) =
+      (slots, moments, ahead, after, cut moments ahead after done, of_board, stopped,
       subst (λ text. HasPut text start now) (sym (law slots moments)) (behind first mid put opened moments (Ok tt) now written))
   unended Done after first mid now put opened runs = runs
   unended Usage after first mid now put opened runs = runs
@@ -103,3 +103,16 @@ module _ (t : TailoringParts) (s : Script) (law : Extends t s) (start : Seen) (s
       → EndsEarly t s start NoMemory now
   unreported after now moments whole done put =
       (record_of t s (moments ∷ slots), up_to moments at_end after (whole, done), put_whole (record_of t s (moments ∷ slots)) start now put)
+
+-- a slot whose moments were written, by how it was run
+pub slot_ran : (uplinks : List (List ℕ)) (before after : Core) (fault : BoardFault) (moments : List Moment) (ahead : Ahead) (was now : Seen) → DoesPart uplinks before moments ahead after
+    → IsStopped ahead after fault → HasPut (lines_of moments) was now → RunsTo uplinks before after (Err (status_of_board fault)) was now
+slot_ran uplinks before after fault.JournalFull moments ahead was now done stopped put = (moments, ahead, done, tt, stopped, put)
+slot_ran uplinks before after fault.TimeExhausted moments ahead was now done stopped put = (moments, ahead, done, tt, stopped, put)
+slot_ran uplinks before after fault.Memory moments ahead was now done stopped put = (moments, ahead, done, put_whole (lines_of moments) was now put)
+
+-- a slot whose moments were written in part
+pub slot_broken : (uplinks : List (List ℕ)) (before after : Core) (fault : Unwritten) (moments : List Moment) (ahead : Ahead) (was now : Seen) → DoesPart uplinks before moments ahead after
+    → HasFailed (lines_of moments) fault was now → RunsTo uplinks before after (Err (status_of_writing fault)) was now
+slot_broken uplinks before after write.Failed moments ahead was now done failed = (moments, ahead, done, failed)
+slot_broken uplinks before after write.Memory moments ahead was now done failed = (moments, ahead, done, failed)

@@ -2,3 +2,4 @@ pub mod TextLemmas
 pub mod StepLemmas
 pub mod SeatLemmas
 pub mod EndLemmas
+pub mod OuterLemmas

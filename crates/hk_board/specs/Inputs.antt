@@ -25,6 +25,10 @@ abbrev pub outcome_under : Option (List ℕ) → Result TailoringParts Tailoring
 outcome_under octets (Ok t) = option_map (λ o. script_outcome t (script_in t o)) octets
 outcome_under octets (Err fault) = Some (stopped (status.Tailoring fault))
 
+-- a script of these octets tells an outcome under a tailoring
+abbrev pub TellsUnder : TailoringParts → Option (List ℕ) → Outcome → Type 0
+TellsUnder t octets outcome = option_map (λ o. script_outcome t (script_in t o)) octets ≡ Some outcome
+
 -- the files tell the outcome of a command
 abbrev pub Tells : Option (List (List ℕ × List ℕ)) → Command → Outcome → Type 0
 Tells files command outcome =
@@ -45,10 +49,15 @@ abbrev pub LacksInputOf : Option (List (List ℕ × List ℕ)) → Option Comman
 LacksInputOf files None = ⊥
 LacksInputOf files (Some command) = IsAbsent files command.tailoring ⊎ IsAbsentFile files command.script
 
--- how a run ends without a named input: that is told, or a fault of the tailoring that was meant, or there was no memory
+-- a run ends without an input: it couldn't be selected, or memory ran out, or the tailoring is there and has the fault that it is told to have
+abbrev pub EndsWithoutInput : Option (List (List ℕ × List ℕ)) → Command → BoardStatus → Type 0
+EndsWithoutInput files command status.ReadFault = ⊤
+EndsWithoutInput files command status.NoMemory = ⊤
+EndsWithoutInput files command (status.Tailoring fault) =
+    (IsAbsent files command.tailoring → ⊥) × ((meant : Result TailoringParts TailoringFault) → StandsFor files command.tailoring meant → meant ≡ Err fault)
+EndsWithoutInput files command status = ⊥
+
+-- the same of words
 abbrev pub EndsWithoutInputOf : Option (List (List ℕ × List ℕ)) → Option Command → BoardStatus → Type 0
-EndsWithoutInputOf files (Some command) status.ReadFault = ⊤
-EndsWithoutInputOf files (Some command) status.NoMemory = ⊤
-EndsWithoutInputOf files (Some command) (status.Tailoring fault) =
-    (meant : Result TailoringParts TailoringFault) → StandsFor files command.tailoring meant → meant ≡ Err fault
-EndsWithoutInputOf files command status = ⊥
+EndsWithoutInputOf files None status = ⊥
+EndsWithoutInputOf files (Some command) status = EndsWithoutInput files command status

@@ -4,3 +4,4 @@ pub mod Inputs
 pub mod Seats
 pub mod Progress
 pub mod Outputs
+pub mod Runs

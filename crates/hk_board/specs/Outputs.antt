@@ -1,5 +1,5 @@
 -- What a run wrote.
-use Rattle.std.specs.Prelude.{◌≡◌, ◌≤◌, ⊤, ◌⊎◌, ℕ, List, ◌∷◌, length, Option, IfSome}
+use Rattle.std.specs.Prelude.{◌≡◌, ◌≤◌, ⊤, ◌⊎◌, ℕ, List, ◌∷◌, length, Option, Some}
 use Rattle.hk_base.specs.TailoringParts.{TailoringParts}
 use Rattle.hk_world.specs.declared.moment.Moment.{Moment}
 use Rattle.session_record.specs.Written.{IsWritten, IsPrefixWritten}
@@ -50,7 +50,7 @@ WritesNothing NoMemory before after = ⊤
 WritesNothing (Board fault) before after = ⊤
 WritesNothing status before after = after ≡ before
 
--- a sink has room for each run of a script, whole or up to a step
+-- a sink tells that it has room for each run of a script, whole or up to a step
 abbrev pub HasRoomFor : Option ℕ → Outcome → Type 0
 HasRoomFor room (stopped known) = ⊤
-HasRoomFor room (runs t s) = IfSome room (λ n. (text : List ℕ) → IsRecordOfRun t s text ⊎ IsRecordOfCut t s text → length text ≤ n)
+HasRoomFor room (runs t s) = (n : ℕ) × (room ≡ Some n) × ((text : List ℕ) → IsRecordOfRun t s text ⊎ IsRecordOfCut t s text → length text ≤ n)

@@ -12,6 +12,7 @@ use Rattle.board_scripts.specs.declared.script.Script.{Script}
 use Rattle.run_records.specs.Putting.{Seen, HasPut, HasFailed, lines_of}
 use Rattle.board_runs.specs.Runs.{HasDone, HasRun, IsRun, IsCut, IsRecordOfRun, IsRecordOfCut, record_of}
 use Rattle.run_slots.specs.Standing.{IsBeforeSlot}
+use Rattle.hk_board.specs.Faults.{IsOfBoard}
 use Rattle.hk_board.specs.declared.status.BoardStatus.{BoardStatus}
 use Rattle.hk_board.specs.declared.status.BoardStatus.TheVariants.{WriteFault, NoMemory, Board}
 
@@ -28,7 +29,7 @@ RunsTo uplinks before after (Err WriteFault) was now =
 RunsTo uplinks before after (Err NoMemory) was now =
     (moments : List Moment) × (ahead : Ahead) × DoesPart uplinks before moments ahead after × HasFailed (lines_of moments) write.Memory was now
 RunsTo uplinks before after (Err (Board fault)) was now =
-    (moments : List Moment) × (ahead : Ahead) × DoesPart uplinks before moments ahead after × IsStopped ahead after fault × HasPut (lines_of moments) was now
+    (moments : List Moment) × (ahead : Ahead) × DoesPart uplinks before moments ahead after × IsOfBoard fault × IsStopped ahead after fault × HasPut (lines_of moments) was now
 RunsTo uplinks before after (Err status) was now = ⊥
 
 module _ (t : TailoringParts) (s : Script) (start : Seen) where
@@ -50,7 +51,7 @@ module _ (t : TailoringParts) (s : Script) (start : Seen) where
   -- all of a run up to a step was written, whose next step is refused
   abbrev pub StopsAt : BoardFault → Seen → Type 0
   StopsAt fault now =
-      (slots : List (List Moment)) × (moments : List Moment) × (ahead : Ahead) × (c : Core) × IsCut t s slots moments ahead c × IsStopped ahead c fault
+      (slots : List (List Moment)) × (moments : List Moment) × (ahead : Ahead) × (c : Core) × IsCut t s slots moments ahead c × IsOfBoard fault × IsStopped ahead c fault
       × HasPut (record_of t s (moments ∷ slots)) start now
 
   -- what stands on the sink after a run that ended early

@@ -1,4 +1,9 @@
 //! How a run ended.
+ghost use Rattle.std.specs.Prelude.{◌≡◌, IfOk};
+ghost use Rattle.hk_board.specs.Faults as told;
+ghost use Rattle.hk_board.specs.Faults.{fault_text, status_number, status_of_board, status_of_run, status_of_script, status_of_writing};
+ghost use Rattle.hk_board.specs.declared.status.BoardStatus.TheVariants as status;
+
 use board_core::BoardFault;
 use board_scripts::ScriptFault;
 use hk_base::{Memory, Octets};
@@ -35,12 +40,16 @@ pub enum BoardStatus {
 }
 
 impl From<Memory> for BoardStatus {
+    ghost from_gives = { λ _ e. e ≡ status.NoMemory };
+
     fn from(_: Memory) -> BoardStatus {
         BoardStatus::NoMemory
     }
 }
 
 impl From<RunFault> for BoardStatus {
+    ghost from_gives = { λ fault e. e ≡ status_of_run fault };
+
     fn from(fault: RunFault) -> BoardStatus {
         match fault {
             RunFault::Tailoring(fault) => BoardStatus::Tailoring(fault),
@@ -52,6 +61,8 @@ impl From<RunFault> for BoardStatus {
 }
 
 impl From<ScriptFault> for BoardStatus {
+    ghost from_gives = { λ fault e. e ≡ status_of_script fault };
+
     fn from(fault: ScriptFault) -> BoardStatus {
         match fault {
             ScriptFault::Line(line) => BoardStatus::Script(line),
@@ -62,6 +73,8 @@ impl From<ScriptFault> for BoardStatus {
 }
 
 impl From<WriteFault> for BoardStatus {
+    ghost from_gives = { λ fault e. e ≡ status_of_writing fault };
+
     fn from(fault: WriteFault) -> BoardStatus {
         match fault {
             WriteFault::Failed => BoardStatus::WriteFault,
@@ -71,6 +84,8 @@ impl From<WriteFault> for BoardStatus {
 }
 
 impl From<BoardFault> for BoardStatus {
+    ghost from_gives = { λ fault e. e ≡ status_of_board fault };
+
     fn from(fault: BoardFault) -> BoardStatus {
         match fault {
             BoardFault::Memory => BoardStatus::NoMemory,
@@ -81,7 +96,9 @@ impl From<BoardFault> for BoardStatus {
 
 impl BoardStatus {
     /// The exit status of the program.
-    pub fn number(&self) -> u8 {
+    pub fn number(&self) -> u8
+        ensures { result ≡ status_number self.now }
+    {
         match self {
             BoardStatus::Done => DONE,
             BoardStatus::Usage => USAGE,
@@ -95,7 +112,9 @@ impl BoardStatus {
     }
 
     /// What is printed of it: nothing of `Done`, else a line without its end.
-    pub fn fault_text(&self, alloc: Global) -> Result<Octets, Memory> {
+    pub fn fault_text(&self, alloc: Global) -> Result<Octets, Memory>
+        ensures { IfOk result (λ text. text ≡ fault_text self.now) }
+    {
         match self {
             BoardStatus::Done => plain_text(alloc, ""),
             BoardStatus::Usage => plain_text(alloc, "usage"),
@@ -110,7 +129,9 @@ impl BoardStatus {
 }
 
 /// The text of a fault of the board.
-fn board_text(fault: BoardFault) -> &'static str {
+fn board_text(fault: BoardFault) -> &'static str
+    ensures { result.now ≡ told.board_text fault }
+{
     match fault {
         BoardFault::JournalFull => "board: journal full",
         BoardFault::TimeExhausted => "board: time exhausted",

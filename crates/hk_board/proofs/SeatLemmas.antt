@@ -1,2 +1,0 @@
--- Samplers that keep their seats.
-use Rattle.std.proofs.Common.{◌≡◌, ℕ}

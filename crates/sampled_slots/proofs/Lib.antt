@@ -1,0 +1,7 @@
+pub mod ParamLemmas
+pub mod ReadingLemmas
+pub mod SeatLemmas
+pub mod SumLemmas
+pub mod CountLemmas
+pub mod OrderLemmas
+pub mod UnfiledLemmas

@@ -1,0 +1,82 @@
+//! Laws of what samplers file.
+ghost use Rattle.std.specs.Prelude.{◌≡◌, ◌⊎◌, ◌<◌, ◌≤◌, ◌+◌, ◌-◌, ◌++◌, ℕ, List, [], ◌∷◌, length, map, reverse, slice_index_or, true};
+ghost use Rattle.hk_base.specs.Fit.{IsFit};
+ghost use Rattle.hk_base.specs.TailoringParts.{TailoringParts};
+ghost use Rattle.hk_world.specs.declared.moment.Moment.{Moment};
+ghost use Rattle.board_scripts.specs.declared.script.Script.{Script};
+ghost use Rattle.board_steps.specs.Cores.{Core, new_core};
+ghost use Rattle.board_steps.specs.SlotRuns.{Ahead, IsPart, IsSlot};
+ghost use Rattle.sampler_threads.specs.Samplings.{AreFresh, Filed, FiledPart, HavePlaces, NoneFiled};
+ghost use Rattle.sampler_threads.specs.Slots.{AreSampled, CanOrderAll, Ring, ends_of};
+ghost use Rattle.sampler_threads.specs.declared.slot.Sampler.{Sampler};
+ghost use Rattle.board_runs.specs.Runs.{HasDone, HasRun};
+ghost use Rattle.board_runs.specs.Samplers.{AreCounted, HaveBeenSure, HaveSampled, faults_of, filings_of, sensed};
+ghost use Rattle.sampled_slots.specs.Seats.{AreCounts, AreFiled, AreFiledInPart, AreTakenOut, HaveCounted, HaveOrders, HaveSeats, HaveStayed, is_spent, sensors_of};
+
+use board_steps::{boards, slots, steps};
+use hk_base::Sensor;
+use sampler_threads::orders_are_due;
+
+/// Samplers that stand in their seats file what a run allows: some of their orders, in order, with values that their sensors
+/// give, and in a whole slot each order of which the sensor is sure. What `run_slot` says of each sampler is so of the
+/// moments of the slot.
+pub fn slots_are_sampled<N: Sensor>()
+    ensures whole { (t : TailoringParts) (was : List N) (slot : ℕ) (moments : List Moment) (samplers after : List (Sampler N)) → IsFit t → HaveSeats N.Sensor t was slot samplers
+        → AreFiled N.Sensor t moments samplers after → HaveSampled N.Sensor t was slot moments }
+    ensures sure { (t : TailoringParts) (was : List N) (slot : ℕ) (moments : List Moment) (samplers after : List (Sampler N)) → IsFit t → HaveSeats N.Sensor t was slot samplers
+        → AreFiled N.Sensor t moments samplers after → HaveBeenSure N.Sensor t was slot moments }
+    ensures part { (t : TailoringParts) (was : List N) (slot : ℕ) (moments : List Moment) (samplers : List (Sampler N)) → IsFit t → HaveSeats N.Sensor t was slot samplers
+        → AreFiledInPart N.Sensor t moments samplers → HaveSampled N.Sensor t was slot moments }
+    ensures filed { (t : TailoringParts) (before after : Core) (moments : List Moment) (samplers later : List (Sampler N)) → HasDone before moments after
+        → ((k : ℕ) (s : Sampler N) → k < length samplers → (ms : List Moment) × (after.moments ≡ reverse ms ++ before.moments) × Filed N.Sensor t ms (slice_index_or samplers k s) (slice_index_or later k s))
+        → AreFiled N.Sensor t moments samplers later }
+    ensures filed_part { (t : TailoringParts) (before after : Core) (moments : List Moment) (samplers : List (Sampler N)) → HasDone before moments after
+        → ((k : ℕ) (s : Sampler N) → k < length samplers → (ms : List Moment) × (after.moments ≡ reverse ms ++ before.moments) × FiledPart N.Sensor t ms (slice_index_or samplers k s))
+        → AreFiledInPart N.Sensor t moments samplers }
+{}
+
+/// No more orders of a whole slot are left without a filing than the counts of faults rise by, unless a count has come to its
+/// end, where it stays. So it is of all slots of a run. A count that has come to its end stands there, since no read leaves a
+/// greater one.
+pub fn slots_are_counted<N: Sensor>()
+    ensures counted { (t : TailoringParts) (was : List N) (slot : ℕ) (moments : List Moment) (samplers after : List (Sampler N)) → IsFit t → 0 < length was
+        → HaveSeats N.Sensor t was slot samplers → length after ≡ length samplers → AreFiled N.Sensor t moments samplers after
+        → (is_spent N.Sensor (sensors_of after) ≡ true) ⊎ ((length (sensed t) - length (filings_of (sensed t) moments)) + faults_of N.Sensor (sensors_of samplers) ≤ faults_of N.Sensor (sensors_of after)) }
+    ensures first { (t : TailoringParts) (was : List N) → HaveCounted N.Sensor t was was [] }
+    ensures more { (t : TailoringParts) (was : List N) (slot : ℕ) (moments : List Moment) (slots : List (List Moment)) (samplers after : List (Sampler N)) → IsFit t → 0 < length was
+        → HaveSeats N.Sensor t was slot samplers → length after ≡ length samplers → AreFiled N.Sensor t moments samplers after
+        → HaveCounted N.Sensor t was (sensors_of samplers) slots → HaveCounted N.Sensor t was (sensors_of after) (moments ∷ slots) }
+    ensures all { (t : TailoringParts) (was is : List N) (slots : List (List Moment)) → AreCounts N.Sensor is → HaveCounted N.Sensor t was is slots → AreCounted N.Sensor t was is slots }
+{}
+
+/// Samplers with their own orders for the slot that runs can take them, and they are due, where no sensed parameter is filed
+/// yet and all that was sent was taken. A slot leaves the sensors and the places of the rings as they were. The call is the
+/// law that it stands on.
+pub fn samplers_can_be_ordered<N: Sensor>()
+    ensures fresh { (core : Core) (count : ℕ) (rings : List Ring) (samplers : List (Sampler N)) → IsFit core.tailoring → NoneFiled core
+        → HaveOrders core.tailoring count core.slot_now samplers → AreTakenOut rings samplers → AreFresh core rings samplers }
+    ensures orders { (t : TailoringParts) (count slot : ℕ) (samplers : List (Sampler N)) → IsFit t → HaveOrders t count slot samplers → HavePlaces t count (ends_of samplers)
+        → CanOrderAll t samplers }
+    ensures places { (t u : TailoringParts) (count : ℕ) (samplers after : List (Sampler N)) → HavePlaces t count (ends_of samplers) → AreSampled N.Sensor u samplers after
+        → HavePlaces t count (ends_of after) }
+    ensures first { (sensors : List N) → HaveStayed N.Sensor sensors sensors }
+    ensures stayed { (t : TailoringParts) (was : List N) (samplers after : List (Sampler N)) → HaveStayed N.Sensor was (sensors_of samplers) → AreSampled N.Sensor t samplers after
+        → HaveStayed N.Sensor was (sensors_of after) }
+{
+    orders_are_due();
+}
+
+/// In a run no parameter has a sample in a slot before it begins. The core of a run has its tailoring, and is in the slot after
+/// those that ran. Steps of a slot add moments to those that were there. The calls are the laws that it stands on.
+pub fn slots_begin_unfiled()
+    ensures new { (t : TailoringParts) → NoneFiled (new_core t) }
+    ensures run { (t : TailoringParts) (s : Script) (slots : List (List Moment)) (c : Core) → IsFit t → HasRun t s slots c → NoneFiled c }
+    ensures tailoring { (t : TailoringParts) (s : Script) (slots : List (List Moment)) (c : Core) → IsFit t → HasRun t s slots c → c.tailoring ≡ t }
+    ensures slot { (t : TailoringParts) (s : Script) (slots : List (List Moment)) (c : Core) → HasRun t s slots c → c.slot_now ≡ length slots }
+    ensures grows { (uplinks : List (List ℕ)) (before after : Core) → IsSlot uplinks before after → (moments : List Moment) × HasDone before moments after }
+    ensures grows_part { (uplinks : List (List ℕ)) (before : Core) (ahead : Ahead) (after : Core) → IsPart uplinks before ahead after → (moments : List Moment) × HasDone before moments after }
+{
+    boards();
+    steps();
+    slots();
+}

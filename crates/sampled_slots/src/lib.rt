@@ -1,0 +1,6 @@
+//! What the samplers file in the slots of a run.
+#![tactic(auto)]
+
+mod laws;
+
+pub use laws::{samplers_can_be_ordered, slots_are_counted, slots_are_sampled, slots_begin_unfiled};

@@ -117,7 +117,10 @@ module _ {S : Type 0} (g : Ghosts S) where
       (λ rest.
       let rise = subst (λ n. sum_from (missing_of t (length was) ms) 0 n + faults_of g (sensors_of samplers) ≤ faults_of g (sensors_of after)) many rest in
       inr (omega (arith, rise, all)))
-      (sums (missing_of t (length was) ms) 0 samplers after same (λ k s below. (one k s below).risen))
+      (sums (missing_of t (length was) ms) 0 samplers after same (λ k s below.
+      let place : k ≡ 0 + k = omega arith in
+      subst (λ j. min (g.faults (slice_index_or samplers k s).sensor + missing_of t (length was) ms j) most_faults ≤ g.faults (slice_index_or after k s).sensor) place
+      (one k s below).risen))
 
   pub slot-spent : (t : TailoringParts) (ms : List Moment) (samplers after : List (Sampler S)) → length after ≡ length samplers → AreFiled g t ms samplers after
       → is_spent g (sensors_of samplers) ≡ true → is_spent g (sensors_of after) ≡ true

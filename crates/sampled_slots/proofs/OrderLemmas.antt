@@ -13,9 +13,9 @@ use Rattle.hk_base.specs.declared.types.Param.{Param}
 use Rattle.hk_world.specs.declared.moment.Moment.{Moment}
 use Rattle.board_steps.specs.Cores.{Core}
 use Rattle.sampler_threads.specs.Orders.{orders_for, dealt, sensed}
-use Rattle.sampler_threads.specs.Samples.{places_of, SameEnd}
+use Rattle.sampler_threads.specs.Samples.{places_of, sent_by}
 use Rattle.sampler_threads.specs.Samplings.{AreFresh, AreDistinctOrders, Filed, FiledPart, HavePlaces, IsDue, NoneFiled, is_sensed}
-use Rattle.sampler_threads.specs.Slots.{AreSampled, CanOrderAll, Ring, ends_of}
+use Rattle.sampler_threads.specs.Slots.{AreSampled, CanOrderAll, FreshEnd, IsEndOf, IsSamplerOf, Ring, SettledSampler, WithEach, ends_of}
 use Rattle.sampler_threads.specs.declared.item.Order.{Order}
 use Rattle.sampler_threads.specs.declared.end.SamplerEnd.{SamplerEnd}
 use Rattle.sampler_threads.specs.declared.slot.Sampler.{Sampler}
@@ -38,8 +38,8 @@ AreApartEach =
     → AllByRecursion (λ order. AllByRecursion (λ other. other.param ≢ order.param) (orders_for t count k slot)) (orders_for t count j slot)
 
 pub all-fresh : {S : Type 0} → AreDueWhereUnfiled → AreDistinctEach → AreApartEach → (core : Core) (count : ℕ) (rings : List Ring) (samplers : List (Sampler S))
-    → IsFit core.tailoring → NoneFiled core → HaveOrders core.tailoring count core.slot_now samplers → AreTakenOut rings samplers → AreFresh core rings samplers
-all-fresh due distinct apart core count rings samplers fit none orders empty =
+    → IsFit core.tailoring → NoneFiled core → HaveOrders core.tailoring count core.slot_now samplers → AreTakenOut rings (ends_of samplers) → AreFresh core rings samplers
+all-fresh {S} due distinct apart core count rings samplers fit none orders empty =
     record {
       due = λ k s below. subst (λ os. AllByRecursion (IsDue core) os) (sym (orders k s below)) (due core count k fit none);
       distinct = λ k s below. subst (λ os. AreDistinctOrders os) (sym (orders k s below)) (distinct core.tailoring count k core.slot_now fit);
@@ -47,7 +47,10 @@ all-fresh due distinct apart core count rings samplers fit none orders empty =
           subst (λ os. AllByRecursion (λ order. AllByRecursion (λ other. other.param ≢ order.param) (slice_index_or samplers k s).orders) os) (sym (orders j s bj))
           (subst (λ os. AllByRecursion (λ order. AllByRecursion (λ other. other.param ≢ order.param) os) (orders_for core.tailoring count j core.slot_now)) (sym (orders k s bk))
           (apart core.tailoring count j k core.slot_now fit ne));
-      empty = empty;
+      empty = λ k r s below.
+          let end : Sampler S → SamplerEnd = λ (x : Sampler S). x.end in
+          let within : k < length (ends_of samplers) = omega (arith, below, length-map samplers end) in
+          empty k r s.end within ∙ ap sent_by (get_or-map end samplers k s s.end below);
     }
 
 sensed-some : (o : Option Param) → is_sensed o ≡ true → is_some o ≡ true
@@ -157,3 +160,45 @@ module _ {S : Type 0} (g : Ghosts S) (t : TailoringParts) (before after : Core) 
   all-filed-part h k s below =
       let r = h k s below in
       subst (λ ns. FiledPart g t ns (slice_index_or samplers k s)) (same-moments r.0 ms before.moments after.moments r.1 done) r.2
+
+-- the ends of samplers, and the samplers with them
+module _ {S : Type 0} (rings : List Ring) (samplers : List (Sampler S)) where
+  pub samplers-paired : WithEach IsEndOf rings (ends_of samplers) → WithEach IsSamplerOf rings samplers
+  samplers-paired h =
+      let end : Sampler S → SamplerEnd = λ (x : Sampler S). x.end in
+      record {
+        count = sym (length-map samplers end) ∙ h.count;
+        each = λ k r s below.
+            let within : k < length samplers = omega (arith, below, length-map samplers end, h.count) in
+            subst (λ e. IsEndOf (slice_index_or rings k r) e) (get_or-map end samplers k s s.end within) (h.each k r s.end below);
+      }
+
+  pub ends-paired : WithEach IsSamplerOf rings samplers → WithEach IsEndOf rings (ends_of samplers)
+  ends-paired h =
+      let end : Sampler S → SamplerEnd = λ (x : Sampler S). x.end in
+      record {
+        count = length-map samplers end ∙ h.count;
+        each = λ k r e below.
+            let within : k < length samplers = omega (arith, below, h.count) in
+            let s = member samplers k within in
+            subst (λ z. IsEndOf (slice_index_or rings k r) z) (sym (get_or-map end samplers k s e within)) (h.each k r s below);
+      }
+
+  -- what was sent was taken where all is settled
+  pub settled-out : WithEach SettledSampler rings samplers → AreTakenOut rings (ends_of samplers)
+  settled-out h k r e below =
+      let end : Sampler S → SamplerEnd = λ (x : Sampler S). x.end in
+      let within : k < length samplers = omega (arith, below, length-map samplers end) in
+      let there : k < length rings = omega (arith, within, h.count) in
+      let s = member samplers k within in
+      (h.each k r s there).whole ∙ ap sent_by (sym (get_or-map end samplers k s e within))
+
+-- so are those of new ends
+pub new-paired : (rings : List Ring) (ends : List SamplerEnd) → WithEach FreshEnd rings ends → WithEach IsEndOf rings ends
+new-paired rings ends h = record { count = h.count; each = λ k r e below. (h.each k r e below).0 }
+
+pub new-out : (rings : List Ring) (ends : List SamplerEnd) → WithEach FreshEnd rings ends → AreTakenOut rings ends
+new-out rings ends h k r e below =
+    let there : k < length rings = omega (arith, below, h.count) in
+    let fresh = h.each k r e there in
+    fresh.1 ∙ sym fresh.3

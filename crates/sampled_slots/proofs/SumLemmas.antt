@@ -36,7 +36,7 @@ sum-add f h i (suc n) = let rest = sum-add f h (suc i) n in omega (arith, rest)
 
 sum-none : (i n : ℕ) → sum_from (λ k. 0) i n ≡ 0
 sum-none i zero = refl
-sum-none i (suc n) = sum-none (suc i) n
+sum-none i (suc n) = let rest = sum-none (suc i) n in omega (arith, rest)
 
 -- 1 where a test passes
 abbrev pub one_if : Bool → ℕ
@@ -77,8 +77,8 @@ one-at j i (suc n) low high = by (eq-or-lt_of_le low) (λ l. one-at j (suc i) n 
         omega (arith, here, more)
 
 kept-length : (b : Bool) (p : Param) (xs : List Param) → length (kept_if b p xs) ≡ one_if b + length xs
-kept-length true p xs = refl
-kept-length false p xs = refl
+kept-length true p xs = omega arith
+kept-length false p xs = omega arith
 
 -- each parameter stands with one sampler
 pub dealt-lengths : (n i : ℕ) (ps : List Param) → 0 < n → sum_from (λ k. length (dealt n k i ps)) 0 n ≡ length ps
@@ -136,8 +136,8 @@ among-length : (ps : List Param) (x : Sample) (xs : List Sample) → length (sam
 among-length ps x xs = by (is_among ps x.param)
   where
     by : (b : Bool) → length (cond b (x ∷ samples_among ps xs) (samples_among ps xs)) ≡ one_if b + length (samples_among ps xs)
-    by true = refl
-    by false = refl
+    by true = omega arith
+    by false = omega arith
 
 -- a sample is of one sampler at most
 pub samples-shared : (n : ℕ) (ps : List Param) (xs : List Sample) → AreApart ps → sum_from (λ k. length (samples_among (dealt n k 0 ps) xs)) 0 n ≤ length (samples_among ps xs)

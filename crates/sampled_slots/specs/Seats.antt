@@ -10,6 +10,7 @@ use Rattle.sampler_threads.specs.Orders.{orders_for}
 use Rattle.sampler_threads.specs.Samples.{sent_by}
 use Rattle.sampler_threads.specs.Samplings.{Filed, FiledPart}
 use Rattle.sampler_threads.specs.Slots.{Ring}
+use Rattle.sampler_threads.specs.declared.end.SamplerEnd.{SamplerEnd}
 use Rattle.sampler_threads.specs.declared.slot.Sampler.{Sampler}
 use Rattle.board_runs.specs.Samplers.{AreCounted}
 
@@ -22,10 +23,10 @@ abbrev pub HaveOrders : {S : Type 0} → TailoringParts → ℕ → ℕ → List
 HaveOrders {S} t count slot samplers =
     (k : ℕ) (s : Sampler S) → k < length samplers → (slice_index_or samplers k s).orders ≡ orders_for t count k slot
 
--- of each ring all that was sent was taken
-abbrev pub AreTakenOut : {S : Type 0} → List Ring → List (Sampler S) → Type 0
-AreTakenOut {S} rings samplers =
-    (k : ℕ) (r : Ring) (s : Sampler S) → k < length samplers → received (slice_index_or rings k r) ≡ sent_by (slice_index_or samplers k s).end
+-- of each ring all that its end has sent was taken
+abbrev pub AreTakenOut : List Ring → List SamplerEnd → Type 0
+AreTakenOut rings ends =
+    (k : ℕ) (r : Ring) (e : SamplerEnd) → k < length ends → received (slice_index_or rings k r) ≡ sent_by (slice_index_or ends k e)
 
 module _ {S : Type 0} (g : Ghosts S) where
   -- Sensors that give what they gave, and are sure of all of which they were sure.

@@ -7,7 +7,8 @@ ghost use Rattle.board_scripts.specs.declared.script.Script.{Script};
 ghost use Rattle.board_steps.specs.Cores.{Core, new_core};
 ghost use Rattle.board_steps.specs.SlotRuns.{Ahead, IsPart, IsSlot};
 ghost use Rattle.sampler_threads.specs.Samplings.{AreFresh, Filed, FiledPart, HavePlaces, NoneFiled};
-ghost use Rattle.sampler_threads.specs.Slots.{AreSampled, CanOrderAll, Ring, ends_of};
+ghost use Rattle.sampler_threads.specs.declared.end.SamplerEnd.{SamplerEnd};
+ghost use Rattle.sampler_threads.specs.Slots.{AreSampled, CanOrderAll, FreshEnd, IsEndOf, IsSamplerOf, Ring, SettledSampler, WithEach, ends_of};
 ghost use Rattle.sampler_threads.specs.declared.slot.Sampler.{Sampler};
 ghost use Rattle.board_runs.specs.Runs.{HasDone, HasRun};
 ghost use Rattle.board_runs.specs.Samplers.{AreCounted, HaveBeenSure, HaveSampled, faults_of, filings_of, sensed};
@@ -54,7 +55,7 @@ pub fn slots_are_counted<N: Sensor>()
 /// law that it stands on.
 pub fn samplers_can_be_ordered<N: Sensor>()
     ensures fresh { (core : Core) (count : ℕ) (rings : List Ring) (samplers : List (Sampler N)) → IsFit core.tailoring → NoneFiled core
-        → HaveOrders core.tailoring count core.slot_now samplers → AreTakenOut rings samplers → AreFresh core rings samplers }
+        → HaveOrders core.tailoring count core.slot_now samplers → AreTakenOut rings (ends_of samplers) → AreFresh core rings samplers }
     ensures orders { (t : TailoringParts) (count slot : ℕ) (samplers : List (Sampler N)) → IsFit t → HaveOrders t count slot samplers → HavePlaces t count (ends_of samplers)
         → CanOrderAll t samplers }
     ensures places { (t u : TailoringParts) (count : ℕ) (samplers after : List (Sampler N)) → HavePlaces t count (ends_of samplers) → AreSampled N.Sensor u samplers after
@@ -66,10 +67,19 @@ pub fn samplers_can_be_ordered<N: Sensor>()
     orders_are_due();
 }
 
+/// The ends of samplers are those of rings as the samplers are. All that was sent was taken where samplers are settled, and of
+/// new ends.
+pub fn samplers_hold_ends<N: Sensor>()
+    ensures samplers { (rings : List Ring) (samplers : List (Sampler N)) → WithEach IsEndOf rings (ends_of samplers) → WithEach IsSamplerOf rings samplers }
+    ensures ends { (rings : List Ring) (samplers : List (Sampler N)) → WithEach IsSamplerOf rings samplers → WithEach IsEndOf rings (ends_of samplers) }
+    ensures settled { (rings : List Ring) (samplers : List (Sampler N)) → WithEach SettledSampler rings samplers → AreTakenOut rings (ends_of samplers) }
+    ensures new_ends { (rings : List Ring) (ends : List SamplerEnd) → WithEach FreshEnd rings ends → WithEach IsEndOf rings ends × AreTakenOut rings ends }
+{}
+
 /// In a run no parameter has a sample in a slot before it begins. The core of a run has its tailoring, and is in the slot after
 /// those that ran. Steps of a slot add moments to those that were there. The calls are the laws that it stands on.
 pub fn slots_begin_unfiled()
-    ensures new { (t : TailoringParts) → NoneFiled (new_core t) }
+    ensures first { (t : TailoringParts) → NoneFiled (new_core t) }
     ensures run { (t : TailoringParts) (s : Script) (slots : List (List Moment)) (c : Core) → IsFit t → HasRun t s slots c → NoneFiled c }
     ensures tailoring { (t : TailoringParts) (s : Script) (slots : List (List Moment)) (c : Core) → IsFit t → HasRun t s slots c → c.tailoring ≡ t }
     ensures slot { (t : TailoringParts) (s : Script) (slots : List (List Moment)) (c : Core) → HasRun t s slots c → c.slot_now ≡ length slots }

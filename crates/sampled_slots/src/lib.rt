@@ -3,4 +3,7 @@
 
 mod laws;
 
-pub use laws::{samplers_can_be_ordered, slots_are_counted, slots_are_sampled, slots_begin_unfiled};
+pub use laws::{
+    samplers_can_be_ordered, samplers_hold_ends, slots_are_counted, slots_are_sampled,
+    slots_begin_unfiled,
+};

@@ -3,8 +3,8 @@ use Rattle.board_steps.specs.SlotRuns.{at_start, at_end}
 use Rattle.sampled_slots.proofs.UnfiledLemmas.{run-unfiled, run-stands, run-slot, leads-grow}
 use Rattle.sampled_slots.proofs.laws.slots_begin_unfiled.Goals as goal
 
-pub returns-clause-new : goal.returns-clause-new
-returns-clause-new c t param e = refl
+pub returns-clause-first : goal.returns-clause-first
+returns-clause-first c t param e = refl
 
 pub returns-clause-run : goal.returns-clause-run
 returns-clause-run c = run-unfiled c.boards.ensures.goes_on c.steps.ensures.unfiled c.boards.ensures.begins

@@ -1,11 +1,10 @@
 -- How far the counts of faults rise while samplers sample.
-use Rattle.std.proofs.Common.{arith, ◌≡◌, ℕ, zero, suc, ◌+◌, ◌-◌, ◌<◌, ◌≤◌, min, refl, sym, ap, subst, ◌∙◌, List, [], ◌∷◌, length, map, filter, Bool, true, false, ◌==◌, ◌⊎◌, inl, inr, ⊎_elim}
-use Rattle.std.specs.Prelude.{nat_le, ◌||◌, slice_index_or}
-use Rattle.std.specs.List.{AllByRecursion, list_any}
+use Rattle.std.proofs.Common.{arith, ◌≡◌, ℕ, suc, ◌+◌, ◌-◌, ◌<◌, ◌≤◌, min, refl, sym, ap, subst, ◌∙◌, List, [], ◌∷◌, length, filter, Bool, true, false, ◌==◌, ◌⊎◌, inl, inr, ⊎_elim}
+use Rattle.std.specs.Prelude.{nat_le, slice_index_or}
 use Rattle.std.proofs.lemmas.Bool.{leb-true, leb-false, le-leb, eqb-true, eq-eqb, false≢true, or_left, or_right, or_cases}
 use Rattle.std.proofs.lemmas.List.{length-map}
 use Rattle.hk_base.specs.Fit.{IsFit}
-use Rattle.hk_base.specs.Outside.{most_faults, IsCount}
+use Rattle.hk_base.specs.Outside.{most_faults}
 use Rattle.hk_base.specs.TailoringParts.{TailoringParts}
 use Rattle.hk_base.specs.declared.outside.Sensor.{Ghosts}
 use Rattle.hk_world.specs.declared.moment.Moment.{Moment}
@@ -19,7 +18,7 @@ use Rattle.sampled_slots.specs.Seats.{sensors_of, HaveSeats, AreFiled, AreCounts
 use Rattle.sampled_slots.proofs.ParamLemmas.{dealt-own, sensed-apart}
 use Rattle.sampled_slots.proofs.ReadingLemmas.{filing, filings-read, filings-count, samples_among, readings-count}
 use Rattle.sampled_slots.proofs.SeatLemmas.{member}
-use Rattle.sampled_slots.proofs.SumLemmas.{sum_from, sum-same, sum-less, sum-add, dealt-lengths, samples-shared}
+use Rattle.sampled_slots.proofs.SumLemmas.{sum_from, sum-same, sum-add, dealt-lengths, samples-shared}
 
 -- how many orders of a sampler have no filing
 abbrev pub missing_of : TailoringParts → ℕ → List Moment → ℕ → ℕ

@@ -1,8 +1,8 @@
 -- The parameters of a sampler: each is found by its ID, and stands with one sampler alone.
-use Rattle.std.proofs.Common.{arith, ◌≡◌, ℕ, suc, ◌+◌, ◌%◌, refl, sym, ap, subst, ◌∙◌, List, [], ◌∷◌, map, filter, find, cond, Bool, true, false, not, ◌==◌, Option, Some, None, inl, inr}
-use Rattle.std.specs.Prelude.{nat_eq, ◌||◌, if◌then◌else◌}
-use Rattle.std.specs.List.{AllByRecursion, IsDistinct, list_any}
-use Rattle.std.proofs.lemmas.Bool.{eqb-true, eq-eqb, false≢true}
+use Rattle.std.proofs.Common.{arith, ◌≡◌, ℕ, suc, ◌+◌, ◌%◌, refl, ap, subst, ◌∙◌, List, [], ◌∷◌, map, filter, find, cond, Bool, true, false, not, ◌==◌, Some, inl, inr}
+use Rattle.std.specs.Prelude.{nat_eq, if◌then◌else◌}
+use Rattle.std.specs.List.{AllByRecursion, IsDistinct}
+use Rattle.std.proofs.lemmas.Bool.{eqb-true, eq-eqb}
 use Rattle.std.proofs.lemmas.Map.Keys.{IsDistinct-head, IsDistinct-tail}
 use Rattle.hk_base.specs.Fit.{IsFit}
 use Rattle.hk_base.specs.Parameters.{parameter, is_settable}

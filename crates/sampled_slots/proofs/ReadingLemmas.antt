@@ -1,10 +1,9 @@
 -- What the readings of a sampler file, as a run has it.
-use Rattle.std.proofs.Common.{arith, ◌≡◌, ℕ, ℤ, ◌+◌, refl, sym, ap, ap₂, subst, ◌∙◌, List, [], ◌∷◌, ◌++◌, length, map, filter, filter_map, cond, Bool, true, false, ◌==◌, Option, Some, None, ◌⊎◌, inl, inr, length-append}
+use Rattle.std.proofs.Common.{arith, ◌≡◌, ℕ, ℤ, ◌+◌, refl, sym, ap, ap₂, subst, ◌∙◌, List, [], ◌∷◌, ◌++◌, length, map, filter, cond, Bool, true, false, ◌==◌, Option, Some, None, inl, inr}
 use Rattle.std.specs.Prelude.{◌||◌, if◌then◌else◌}
-use Rattle.std.specs.List.{AllByRecursion, cons_option, list_any}
+use Rattle.std.specs.List.{AllByRecursion, cons_option}
 use Rattle.std.proofs.lemmas.Bool.{eq-eqb, false≢true, false_from_ne_true, or_left, or_right}
-use Rattle.std.proofs.lemmas.List.{append-nil, length-map}
-use Rattle.hk_base.specs.Fit.{IsFit}
+use Rattle.std.proofs.lemmas.List.{length-map}
 use Rattle.hk_base.specs.Outside.{GivesAlike, StaysSure}
 use Rattle.hk_base.specs.Parameters.{parameter}
 use Rattle.hk_base.specs.TailoringParts.{TailoringParts}
@@ -20,7 +19,7 @@ use Rattle.sampler_threads.specs.Orders.{orders_from}
 use Rattle.sampler_threads.specs.Samplings.{samples_of, is_ordered, is_sensed_sample, sensed_filings}
 use Rattle.sampler_threads.specs.Slots.{AreReadings, IsReadingOf, failures, one_if_none}
 use Rattle.sampler_threads.specs.declared.item.Item.{Item}
-use Rattle.board_runs.specs.Samplers.{Filing, filing_of, filings_of, is_among, is_filed_in, IsPartOf, IsGivenBy, HasSampled, HasBeenSure}
+use Rattle.board_runs.specs.Samplers.{Filing, filing_of, filings_of, is_among, is_filed_in, IsPartOf, IsGivenBy}
 use Rattle.sampled_slots.proofs.ParamLemmas.{IsSensedOf, among-sensed}
 
 -- a sample as it was filed

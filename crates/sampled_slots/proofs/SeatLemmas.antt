@@ -15,10 +15,10 @@ use Rattle.sampler_threads.specs.Samplings.{Filed, FiledPart, samples_of, is_ord
 use Rattle.sampler_threads.specs.Slots.{AreReadings}
 use Rattle.sampler_threads.specs.declared.item.Item.{Item}
 use Rattle.sampler_threads.specs.declared.slot.Sampler.{Sampler}
-use Rattle.board_runs.specs.Samplers.{ordered_of, filings_of, is_filed_in, IsPartOf, IsGivenBy, HasSampled, HasBeenSure, HaveSampled, HaveBeenSure}
+use Rattle.board_runs.specs.Samplers.{ordered_of, is_filed_in, IsPartOf, IsGivenBy, HasSampled, HasBeenSure, HaveSampled, HaveBeenSure}
 use Rattle.sampled_slots.specs.Seats.{sensors_of, HaveSeats, AreFiled, AreFiledInPart}
-use Rattle.sampled_slots.proofs.ParamLemmas.{IsSensedOf, dealt-own, dealt-shared}
-use Rattle.sampled_slots.proofs.ReadingLemmas.{filing, filings-read, params_of, ids_of, readings-order, readings-given, readings-sure}
+use Rattle.sampled_slots.proofs.ParamLemmas.{dealt-own, dealt-shared}
+use Rattle.sampled_slots.proofs.ReadingLemmas.{filings-read, params_of, ids_of, readings-order, readings-given, readings-sure}
 
 -- a member of a list that has one
 pub member : {X : Type 0} (xs : List X) (k : ℕ) → k < length xs → X

@@ -1,5 +1,5 @@
 -- What samplers have in all: their parameters, and the samples of these.
-use Rattle.std.proofs.Common.{arith, ◌≡◌, ℕ, zero, suc, ◌+◌, ◌%◌, ◌<◌, ◌≤◌, refl, sym, ap, ap₂, subst, ◌∙◌, List, [], ◌∷◌, length, cond, Bool, true, false, ◌==◌, ◌⊎◌, inl, inr, mod-lt, eq-or-lt_of_le}
+use Rattle.std.proofs.Common.{arith, ◌≡◌, ℕ, zero, suc, ◌+◌, ◌%◌, ◌<◌, ◌≤◌, refl, sym, ap, ◌∙◌, List, [], ◌∷◌, length, cond, Bool, true, false, ◌==◌, ◌⊎◌, inl, inr, mod-lt, eq-or-lt_of_le}
 use Rattle.std.specs.Prelude.{◌||◌}
 use Rattle.std.specs.List.{AllByRecursion}
 use Rattle.std.proofs.lemmas.Bool.{eqb-true, eq-eqb, ne_eqb, false≢true, false_from_ne_true}

@@ -5,3 +5,4 @@ pub mod SumLemmas
 pub mod CountLemmas
 pub mod OrderLemmas
 pub mod UnfiledLemmas
+pub mod BetweenLemmas

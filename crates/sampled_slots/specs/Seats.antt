@@ -8,11 +8,11 @@ use Rattle.hk_base.specs.declared.outside.Sensor.{Ghosts}
 use Rattle.hk_world.specs.declared.moment.Moment.{Moment}
 use Rattle.sampler_threads.specs.Orders.{orders_for}
 use Rattle.sampler_threads.specs.Samples.{sent_by}
-use Rattle.sampler_threads.specs.Samplings.{Filed, FiledPart}
-use Rattle.sampler_threads.specs.Slots.{Ring}
+use Rattle.sampler_threads.specs.Samplings.{Filed, FiledPart, HavePlaces}
+use Rattle.sampler_threads.specs.Slots.{IsEndOf, Ring, WithEach, ends_of}
 use Rattle.sampler_threads.specs.declared.end.SamplerEnd.{SamplerEnd}
 use Rattle.sampler_threads.specs.declared.slot.Sampler.{Sampler}
-use Rattle.board_runs.specs.Samplers.{AreCounted}
+use Rattle.board_runs.specs.Samplers.{AreCounted, AreSampled}
 
 -- the sensors of samplers
 abbrev pub sensors_of : {S : Type 0} → List (Sampler S) → List S
@@ -60,3 +60,12 @@ module _ {S : Type 0} (g : Ghosts S) where
   -- the counts of faults rose by as much as some slots have orders without a filing, unless one has come to its end
   abbrev pub HaveCounted : TailoringParts → List S → List S → List (List Moment) → Type 0
   HaveCounted t was is slots = (is_spent is ≡ true) ⊎ AreCounted g t was is slots
+
+  -- Samplers between two slots of a run: what was filed so far is as a run allows, and each sampler can go on with its end and its sensor.
+  pub record AreBetween (t : TailoringParts) (was : List S) (slots : List (List Moment)) (rings : List Ring) (samplers : List (Sampler S)) : Type 0 where
+    pub sampled : AreSampled g t was slots
+    pub counted : HaveCounted t was (sensors_of samplers) slots
+    pub stayed : HaveStayed was (sensors_of samplers)
+    pub places : HavePlaces t (length was) (ends_of samplers)
+    pub paired : WithEach IsEndOf rings (ends_of samplers)
+    pub taken_out : AreTakenOut rings (ends_of samplers)

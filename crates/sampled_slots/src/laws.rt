@@ -12,7 +12,7 @@ ghost use Rattle.sampler_threads.specs.Slots.{AreSampled, CanOrderAll, FreshEnd,
 ghost use Rattle.sampler_threads.specs.declared.slot.Sampler.{Sampler};
 ghost use Rattle.board_runs.specs.Runs.{HasDone, HasRun};
 ghost use Rattle.board_runs.specs.Samplers.{AreCounted, HaveBeenSure, HaveSampled, faults_of, filings_of, sensed};
-ghost use Rattle.sampled_slots.specs.Seats.{AreCounts, AreFiled, AreFiledInPart, AreTakenOut, HaveCounted, HaveOrders, HaveSeats, HaveStayed, is_spent, sensors_of};
+ghost use Rattle.sampled_slots.specs.Seats.{AreBetween, AreCounts, AreFiled, AreFiledInPart, AreTakenOut, HaveCounted, HaveOrders, HaveSeats, HaveStayed, is_spent, sensors_of};
 
 use board_steps::{boards, slots, steps};
 use hk_base::Sensor;
@@ -75,6 +75,30 @@ pub fn samplers_hold_ends<N: Sensor>()
     ensures settled { (rings : List Ring) (samplers : List (Sampler N)) → WithEach SettledSampler rings samplers → AreTakenOut rings (ends_of samplers) }
     ensures new_ends { (rings : List Ring) (ends : List SamplerEnd) → WithEach FreshEnd rings ends → WithEach IsEndOf rings ends × AreTakenOut rings ends }
 {}
+
+/// From slot to slot of a run: new samplers can begin, whatever their orders; with the orders for the slot that runs they can
+/// run it; and after a whole slot they can go on. In a slot that is run up to a step they file what a run allows. The call is the
+/// law that it stands on.
+pub fn samplers_go_on<N: Sensor>()
+    ensures begin { (t : TailoringParts) (rings : List Ring) (samplers : List (Sampler N)) → WithEach FreshEnd rings (ends_of samplers) → HavePlaces t (length samplers) (ends_of samplers)
+        → AreBetween N.Sensor t (sensors_of samplers) [] rings samplers }
+    ensures count { (t : TailoringParts) (was : List N) (slots : List (List Moment)) (rings : List Ring) (samplers : List (Sampler N)) → AreBetween N.Sensor t was slots rings samplers
+        → (length samplers ≡ length was) × (length rings ≡ length was) }
+    ensures ordered { (t : TailoringParts) (was : List N) (slots : List (List Moment)) (rings : List Ring) (samplers others : List (Sampler N)) → AreBetween N.Sensor t was slots rings samplers
+        → sensors_of others ≡ sensors_of samplers → ends_of others ≡ ends_of samplers → AreBetween N.Sensor t was slots rings others }
+    ensures ready { (core : Core) (was : List N) (slots : List (List Moment)) (rings : List Ring) (samplers : List (Sampler N)) → IsFit core.tailoring → NoneFiled core
+        → AreBetween N.Sensor core.tailoring was slots rings samplers → HaveOrders core.tailoring (length was) core.slot_now samplers
+        → WithEach IsSamplerOf rings samplers × CanOrderAll core.tailoring samplers × AreFresh core rings samplers }
+    ensures next { (t : TailoringParts) (was : List N) (slots : List (List Moment)) (moments : List Moment) (rings later : List Ring) (samplers after : List (Sampler N)) → IsFit t → 0 < length was
+        → AreBetween N.Sensor t was slots rings samplers → HaveOrders t (length was) (length slots) samplers
+        → AreFiled N.Sensor t moments samplers after → AreSampled N.Sensor t samplers after → WithEach IsSamplerOf later after → WithEach SettledSampler later after
+        → AreBetween N.Sensor t was (moments ∷ slots) later after }
+    ensures part { (t : TailoringParts) (was : List N) (slots : List (List Moment)) (moments : List Moment) (rings : List Ring) (samplers : List (Sampler N)) → IsFit t
+        → AreBetween N.Sensor t was slots rings samplers → HaveOrders t (length was) (length slots) samplers
+        → AreFiledInPart N.Sensor t moments samplers → HaveSampled N.Sensor t was (length slots) moments }
+{
+    orders_are_due();
+}
 
 /// In a run no parameter has a sample in a slot before it begins. The core of a run has its tailoring, and is in the slot after
 /// those that ran. Steps of a slot add moments to those that were there. The calls are the laws that it stands on.

@@ -4,7 +4,7 @@ use Rattle.std.specs.Prelude.{IfOk}
 use Rattle.std.specs.Fmt.{decimal}
 use Rattle.hex.specs.Hex.{encode_lower}
 use Rattle.hk_base.specs.TailoringParts.{TailoringParts}
-use Rattle.board_scripts.specs.Lines.{send_text, start_text, number_text}
+use Rattle.board_scripts.specs.Lines.{send_text, start_text, number_text, percents_text}
 use Rattle.board_scripts.specs.Scripts.{script_of_text}
 use Rattle.board_scripts.specs.Spelling.{IsScript, sendings_text, settings_text, script_text}
 use Rattle.board_scripts.specs.Outcomes.{Reads}
@@ -27,11 +27,18 @@ few-lines (x ∷ xs) =
 
 few-behind : (s : Script) → length s.sendings ≤ length (script_text s)
 few-behind s =
+    let n = length s.sendings in
     let sent = sendings_text s.sendings in
-    behind (start_text s.known) _ (length s.sendings)
-    (behind (number_text (codes "slots") s.slots) (settings_text s.link sent) (length s.sendings)
-    (behind (number_text (codes "seed") s.link.seed) _ (length s.sendings)
-    (behind _ _ (length s.sendings) (behind _ _ (length s.sendings) (behind (number_text (codes "delay") s.link.delay) sent (length s.sendings) (few-lines s.sendings))))))
+    let delay : List ℕ = number_text (codes "delay") s.link.delay ++ sent in
+    let repeat : List ℕ = percents_text (codes "repeat") s.link.repeat.requests s.link.repeat.reports ++ delay in
+    let loss : List ℕ = percents_text (codes "loss") s.link.loss.requests s.link.loss.reports ++ repeat in
+    let slots : List ℕ = number_text (codes "slots") s.slots ++ settings_text s.link sent in
+    behind (start_text s.known) slots n
+    (behind (number_text (codes "slots") s.slots) (settings_text s.link sent) n
+    (behind (number_text (codes "seed") s.link.seed) loss n
+    (behind (percents_text (codes "loss") s.link.loss.requests s.link.loss.reports) repeat n
+    (behind (percents_text (codes "repeat") s.link.repeat.requests s.link.repeat.reports) delay n
+    (behind (number_text (codes "delay") s.link.delay) sent n (few-lines s.sendings))))))
 
 pub read-is : (t : TailoringParts) (text : List ℕ) (result : Result Script ScriptFault) → Reads (λ s. s) result (script_of_text t text) → IfOk result (IsScript t)
 read-is t text (Ok s) read = script-is t s text read

@@ -83,7 +83,7 @@ stands_for files (in_file name) t is = go (octets_of files name) is.0 is.1
   where
     go : (o : Option (List ℕ)) → IfSome o (λ octets. IsOf octets t) → IsSome o
         → (IfSome o (λ octets. IsMeaning octets (Ok t)) × IsSome o) ⊎ ((fault : TailoringFault) × (IfSome o (λ octets. IsMeaning octets (Err fault)) × IsSome o))
-    go None here some = absurd some
+    go None here some = absurd (cc some)
     go (Some octets) here some = by (meaning octets t here (fault_of_file octets) refl)
       where
         by : IsMeaning octets (Ok t) ⊎ ((fault : TailoringFault) × IsMeaning octets (Err fault))

@@ -2,7 +2,8 @@
 use Rattle.std.proofs.Common.{◌≡◌, ◌⊎◌, inl, inr, ℕ, List, Bool, false, Option, Some, None, Result, Ok, Err, refl, sym, subst}
 use Rattle.std.specs.Prelude.{⊤, IfSome, IsErrAnd, IsSome, IsErrOf, OnOk, is_err}
 use Rattle.hk_base.specs.TailoringParts.{TailoringParts}
-use Rattle.hk_base.specs.Outside.{Selects}
+use Rattle.hk_base.specs.Outside.{Counts, Selects}
+use Rattle.hk_base.specs.declared.outside.Failed.{Failed}
 use Rattle.hk_tailoring.specs.declared.fault.TailoringFault.{TailoringFault}
 use Rattle.session_record.specs.Reading.{Reading, Answers, HasHeader}
 use Rattle.session_record.specs.declared.entry.Entry.{Entry}
@@ -391,6 +392,11 @@ lacking_second files now tailoring name P (inr gone) same there second = second 
 
 pub ok_err : {T E : Type 0} (x : T) (e : E) → ◌≡◌ {A = Result T E} (Ok x) (Err e) → ⊥
 ok_err x e is = cc
+
+-- a call of the outside that was well leaves the count of its faults
+pub uncounted : {T : Type 0} (r : Result T Failed) (before now : ℕ) → is_err r ≡ false → Counts before now r → now ≡ before
+uncounted (Ok x) before now is counts = counts
+uncounted (Err e) before now is counts = absurd (cc is)
 
 -- what an Ok says
 pub of_ok : {T E : Type 0} (r : Result T E) (P : Type 0) → is_err r ≡ false → OnOk r P → P

@@ -1,13 +1,10 @@
-use Rattle.std.proofs.Common.{◌≡◌, ℕ, List, Err, inl, inr, sym, ap, ◌∙◌}
+use Rattle.std.proofs.Common.{◌≡◌, ℕ, Err, inr, sym, ap, subst, ◌∙◌}
 use Rattle.std.proofs.lemmas.Result.{err_from_is_err_and}
-use Rattle.record_commands.specs.Encoding.{encoded}
+use Rattle.hk_base.specs.Outside.{HasRisen}
 use Rattle.program_edge.proofs.FaultLemmas.{same_err}
 use Rattle.program_edge.proofs.TailoringLemmas.{file_read, moved_in, unselected}
-use Rattle.hk_replay.specs.Faults.{status_of_run}
 use Rattle.hk_replay.specs.Inputs.{most_taken_of_lines}
-use Rattle.hk_replay.specs.Outcomes.{encode_outcome}
-use Rattle.hk_replay.specs.Replay.{EndsWith}
-use Rattle.hk_replay.proofs.StatusLemmas.{lines_selected, of_ok, plain_lines, read_run, reading_lines}
+use Rattle.hk_replay.proofs.StatusLemmas.{lines_selected, of_ok, plain_lines, read_run, reading_lines, uncounted}
 use Rattle.hk_replay.proofs.jobs.lines_text.Goals as goal
 
 pub returns-in_err-record-clause-plain : goal.returns-in_err-record-clause-plain
@@ -23,7 +20,8 @@ returns-in_err-record-clause-early g c =
 pub returns-in_err-record-clause-read_fault : goal.returns-in_err-record-clause-read_fault
 returns-in_err-record-clause-read_fault g c =
     let p = err_from_is_err_and c.from_residual.result c.from_residual.ensures.1 in
-    rw (p.1, p.2) (λ is. c.in_err-record.ensures.failed (ap Err (read_run c.in_err-record.field-0.0 (same_err _ _ is))))
+    let same = uncounted c.select.result (g.F.Shelf.faults c.args.shelf.now) (g.F.Shelf.faults c.select.new.self) (sym c.is_err.ensures.value ∙ c.if-is_err.false) c.select.ensures.count in
+    rw (p.1, p.2) (λ is. subst (λ (n : ℕ). HasRisen n (g.F.Shelf.faults c.encode.new.shelf)) same (c.in_err-record.ensures.failed (ap Err (read_run c.in_err-record.field-0.0 (same_err _ _ is)))))
 
 pub returns-in_err-record-clause-outcome : goal.returns-in_err-record-clause-outcome
 returns-in_err-record-clause-outcome g c =

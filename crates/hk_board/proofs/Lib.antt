@@ -1,0 +1,5 @@
+pub mod TextLemmas
+pub mod StepLemmas
+pub mod SeatLemmas
+pub mod EndLemmas
+pub mod OuterLemmas

@@ -1,0 +1,2 @@
+-- Samplers that keep their seats.
+use Rattle.std.proofs.Common.{◌≡◌, ℕ}

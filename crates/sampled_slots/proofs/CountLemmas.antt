@@ -14,7 +14,7 @@ use Rattle.sampler_threads.specs.Samplings.{Filed, samples_of, is_ordered, sense
 use Rattle.sampler_threads.specs.Slots.{AreReadings, failures}
 use Rattle.sampler_threads.specs.declared.slot.Sampler.{Sampler}
 use Rattle.board_runs.specs.Samplers.{filings_of, faults_of, is_at_end, AreCounted}
-use Rattle.sampled_slots.specs.Seats.{sensors_of, HaveSeats, AreFiled, AreCounts, is_spent, HaveCounted}
+use Rattle.sampled_slots.specs.Seats.{sensors_of, HaveSeats, AreFiled, AreFaultCounts, is_spent, HaveCounted}
 use Rattle.sampled_slots.proofs.ParamLemmas.{dealt-own, sensed-apart}
 use Rattle.sampled_slots.proofs.ReadingLemmas.{filing, filings-read, filings-count, samples_among, readings-count}
 use Rattle.sampled_slots.proofs.SeatLemmas.{member}
@@ -138,7 +138,7 @@ module _ {S : Type 0} (g : Ghosts S) where
       by (inr later) rest = or_right (nat_le most_faults (g.faults x)) (is_spent g xs) (rest later)
 
   -- and one that has come to its end stands there, where it is a count
-  pub spent-at-end : (sensors : List S) → AreCounts g sensors → is_spent g sensors ≡ true → is_at_end g sensors ≡ true
+  pub spent-at-end : (sensors : List S) → AreFaultCounts g sensors → is_spent g sensors ≡ true → is_at_end g sensors ≡ true
   spent-at-end [] counts e = absurd (false≢true e)
   spent-at-end (x ∷ xs) counts e = by (or_cases (nat_le most_faults (g.faults x)) (is_spent g xs) e) (λ later. spent-at-end xs counts.1 later)
     where
@@ -159,6 +159,6 @@ module _ {S : Type 0} (g : Ghosts S) where
   counted-more t was is after ms slots (inr (inr few)) stays (inl spent) = inl spent
   counted-more t was is after ms slots (inr (inr few)) stays (inr more) = inr (inr (omega (arith, few, more)))
 
-  pub counted-all : (t : TailoringParts) (was is : List S) (slots : List (List Moment)) → AreCounts g is → HaveCounted g t was is slots → AreCounted g t was is slots
+  pub counted-all : (t : TailoringParts) (was is : List S) (slots : List (List Moment)) → AreFaultCounts g is → HaveCounted g t was is slots → AreCounted g t was is slots
   counted-all t was is slots counts (inl spent) = inl (spent-at-end is counts spent)
   counted-all t was is slots counts (inr h) = h

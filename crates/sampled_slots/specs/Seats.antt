@@ -50,8 +50,8 @@ module _ {S : Type 0} (g : Ghosts S) where
   AreFiledInPart t moments samplers = (k : ℕ) (s : Sampler S) → k < length samplers → FiledPart g t moments (slice_index_or samplers k s)
 
   -- no count of faults has passed its end
-  abbrev pub AreCounts : List S → Type 0
-  AreCounts sensors = AllByRecursion (λ sensor. IsCount (g.faults sensor)) sensors
+  abbrev pub AreFaultCounts : List S → Type 0
+  AreFaultCounts sensors = AllByRecursion (λ sensor. IsCount (g.faults sensor)) sensors
 
   -- a count of faults has come to its end
   abbrev pub is_spent : List S → Bool

@@ -12,7 +12,7 @@ ghost use Rattle.sampler_threads.specs.Slots.{AreSampled, CanOrderAll, FreshEnd,
 ghost use Rattle.sampler_threads.specs.declared.slot.Sampler.{Sampler};
 ghost use Rattle.board_runs.specs.Runs.{HasDone, HasRun};
 ghost use Rattle.board_runs.specs.Samplers.{AreCounted, HaveBeenSure, HaveSampled, faults_of, filings_of, sensed};
-ghost use Rattle.sampled_slots.specs.Seats.{AreBetween, AreCounts, AreFiled, AreFiledInPart, AreTakenOut, HaveCounted, HaveOrders, HaveSeats, HaveStayed, is_spent, sensors_of};
+ghost use Rattle.sampled_slots.specs.Seats.{AreBetween, AreFaultCounts, AreFiled, AreFiledInPart, AreTakenOut, HaveCounted, HaveOrders, HaveSeats, HaveStayed, is_spent, sensors_of};
 
 use board_steps::{boards, slots, steps};
 use hk_base::Sensor;
@@ -47,7 +47,7 @@ pub fn slots_are_counted<N: Sensor>()
     ensures more { (t : TailoringParts) (was : List N) (slot : ℕ) (moments : List Moment) (slots : List (List Moment)) (samplers after : List (Sampler N)) → IsFit t → 0 < length was
         → HaveSeats N.Sensor t was slot samplers → length after ≡ length samplers → AreFiled N.Sensor t moments samplers after
         → HaveCounted N.Sensor t was (sensors_of samplers) slots → HaveCounted N.Sensor t was (sensors_of after) (moments ∷ slots) }
-    ensures all { (t : TailoringParts) (was is : List N) (slots : List (List Moment)) → AreCounts N.Sensor is → HaveCounted N.Sensor t was is slots → AreCounted N.Sensor t was is slots }
+    ensures all { (t : TailoringParts) (was is : List N) (slots : List (List Moment)) → AreFaultCounts N.Sensor is → HaveCounted N.Sensor t was is slots → AreCounted N.Sensor t was is slots }
 {}
 
 /// Samplers with their own orders for the slot that runs can take them, and they are due, where no sensed parameter is filed

@@ -7,26 +7,26 @@ use Rattle.hk_base.specs.declared.outside.Sensor.{Ghosts}
 use Rattle.hk_world.specs.declared.moment.Moment.{Moment}
 use Rattle.board_steps.specs.Cores.{Core}
 use Rattle.sampler_threads.specs.Samplings.{AreFresh, HavePlaces, NoneFiled}
-use Rattle.sampler_threads.specs.Slots.{AreSampled, CanOrderAll, FreshEnd, IsEndOf, IsSamplerOf, Ring, SettledSampler, WithEach, ends_of}
+use Rattle.sampler_threads.specs.Slots.{AreSampled, CanOrderAll, IsEndOf, IsSamplerOf, Ring, SettledSampler, WithEach, ends_of}
 use Rattle.sampler_threads.specs.declared.slot.Sampler.{Sampler}
 use Rattle.board_runs.specs.Samplers.{HaveSampled}
 use Rattle.sampled_slots.specs.Seats.{AreBetween, AreFiled, AreFiledInPart, AreTakenOut, HaveCounted, HaveOrders, HaveSeats, HaveStayed, sensors_of}
 use Rattle.sampled_slots.proofs.SeatLemmas.{all-part, all-sure, all-whole}
 use Rattle.sampled_slots.proofs.CountLemmas.{counted-more, slot-counted, slot-spent}
-use Rattle.sampled_slots.proofs.OrderLemmas.{AreApartEach, AreDistinctEach, AreDueWhereUnfiled, all-can, all-fresh, ends-paired, new-out, new-paired, places-more, samplers-paired, settled-out, stayed-first, stayed-more}
+use Rattle.sampled_slots.proofs.OrderLemmas.{AreApartEach, AreDistinctEach, AreDueWhereUnfiled, all-can, all-fresh, ends-paired, places-more, samplers-paired, settled-out, stayed-first, stayed-more}
 
 module _ {S : Type 0} (g : Ghosts S) where
-  pub between-first : (t : TailoringParts) (rings : List Ring) (samplers : List (Sampler S)) → WithEach FreshEnd rings (ends_of samplers) → HavePlaces t (length samplers) (ends_of samplers)
-      → AreBetween g t (sensors_of samplers) [] rings samplers
-  between-first t rings samplers fresh places =
+  pub between-first : (t : TailoringParts) (rings : List Ring) (samplers : List (Sampler S)) → WithEach IsSamplerOf rings samplers → WithEach SettledSampler rings samplers
+      → HavePlaces t (length samplers) (ends_of samplers) → AreBetween g t (sensors_of samplers) [] rings samplers
+  between-first t rings samplers paired settled places =
       let same : length samplers ≡ length (sensors_of samplers) = sym (length-map samplers (λ (s : Sampler S). s.sensor)) in
       record {
         sampled = tt;
         counted = inr (inr (omega arith));
         stayed = stayed-first g (sensors_of samplers);
         places = subst (λ n. HavePlaces t n (ends_of samplers)) same places;
-        paired = new-paired rings (ends_of samplers) fresh;
-        taken_out = new-out rings (ends_of samplers) fresh;
+        paired = ends-paired rings samplers paired;
+        taken_out = settled-out rings samplers settled;
       }
 
   pub between-count : (t : TailoringParts) (was : List S) (slots : List (List Moment)) (rings : List Ring) (samplers : List (Sampler S)) → AreBetween g t was slots rings samplers

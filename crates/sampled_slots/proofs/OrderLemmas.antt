@@ -1,5 +1,5 @@
 -- Orders, ends and sensors from slot to slot.
-use Rattle.std.proofs.Common.{arith, ◌≡◌, ◌≢◌, ℕ, ◌+◌, ◌<◌, refl, sym, ap, subst, ◌∙◌, List, [], ◌∷◌, ◌++◌, length, reverse, true, Option, Some, None}
+use Rattle.std.proofs.Common.{arith, map, ◌≡◌, ◌≢◌, ℕ, ◌+◌, ◌<◌, refl, sym, ap, subst, ◌∙◌, List, [], ◌∷◌, ◌++◌, length, reverse, true, Option, Some, None, ap₂, suc}
 use Rattle.std.specs.Prelude.{is_some, IsSome, slice_index_or}
 use Rattle.std.specs.List.{AllByRecursion}
 use Rattle.std.proofs.lemmas.Bool.{false≢true}
@@ -202,3 +202,19 @@ new-out rings ends h k r e below =
     let there : k < length rings = omega (arith, below, h.count) in
     let fresh = h.each k r e there in
     fresh.1 ∙ sym fresh.3
+
+-- lists whose members are alike in a part
+same-parts : {X Y : Type 0} (f : X → Y) (xs ys : List X) → length ys ≡ length xs
+    → ((k : ℕ) (x : X) → k < length xs → f (slice_index_or ys k x) ≡ f (slice_index_or xs k x)) → map f ys ≡ map f xs
+same-parts f [] [] e h = refl
+same-parts f [] (y ∷ ys) e h = absurd (omega (arith, e))
+same-parts f (x ∷ xs) [] e h = absurd (omega (arith, e))
+same-parts f (x ∷ xs) (y ∷ ys) e h =
+    ap₂ (λ z zs. z ∷ zs) (h 0 x (omega arith)) (same-parts f xs ys (omega (arith, e)) (λ k z below. h (suc k) z (omega (arith, below))))
+
+pub same-seats : {S : Type 0} (samplers others : List (Sampler S)) → length others ≡ length samplers
+    → ((k : ℕ) (s : Sampler S) → k < length samplers → (slice_index_or others k s).end ≡ (slice_index_or samplers k s).end)
+    → ((k : ℕ) (s : Sampler S) → k < length samplers → (slice_index_or others k s).sensor ≡ (slice_index_or samplers k s).sensor)
+    → (ends_of others ≡ ends_of samplers) × (sensors_of others ≡ sensors_of samplers)
+same-seats {S} samplers others count ends sensors =
+    (same-parts (λ (s : Sampler S). s.end) samplers others count ends, same-parts (λ (s : Sampler S). s.sensor) samplers others count sensors)

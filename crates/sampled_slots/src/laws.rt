@@ -67,20 +67,25 @@ pub fn samplers_can_be_ordered<N: Sensor>()
     orders_are_due();
 }
 
-/// The ends of samplers are those of rings as the samplers are. All that was sent was taken where samplers are settled, and of
-/// new ends.
+/// The ends of samplers are those of rings as the samplers are; samplers of which each has the same end and sensor as another
+/// have the same ones. All that was sent was taken where samplers are settled, and of new ends.
 pub fn samplers_hold_ends<N: Sensor>()
     ensures samplers { (rings : List Ring) (samplers : List (Sampler N)) → WithEach IsEndOf rings (ends_of samplers) → WithEach IsSamplerOf rings samplers }
     ensures ends { (rings : List Ring) (samplers : List (Sampler N)) → WithEach IsSamplerOf rings samplers → WithEach IsEndOf rings (ends_of samplers) }
+    ensures same { (samplers others : List (Sampler N)) → length others ≡ length samplers
+        → ((k : ℕ) (s : Sampler N) → k < length samplers → (slice_index_or others k s).end ≡ (slice_index_or samplers k s).end)
+        → ((k : ℕ) (s : Sampler N) → k < length samplers → (slice_index_or others k s).sensor ≡ (slice_index_or samplers k s).sensor)
+        → (ends_of others ≡ ends_of samplers) × (sensors_of others ≡ sensors_of samplers) }
     ensures settled { (rings : List Ring) (samplers : List (Sampler N)) → WithEach SettledSampler rings samplers → AreTakenOut rings (ends_of samplers) }
     ensures new_ends { (rings : List Ring) (ends : List SamplerEnd) → WithEach FreshEnd rings ends → WithEach IsEndOf rings ends × AreTakenOut rings ends }
 {}
 
-/// From slot to slot of a run: new samplers can begin, whatever their orders; with the orders for the slot that runs they can
+/// From slot to slot of a run: samplers that are settled can begin, whatever their orders; with the orders for the slot that runs they can
 /// run it; and after a whole slot they can go on. In a slot that is run up to a step they file what a run allows. The call is the
 /// law that it stands on.
 pub fn samplers_go_on<N: Sensor>()
-    ensures begin { (t : TailoringParts) (rings : List Ring) (samplers : List (Sampler N)) → WithEach FreshEnd rings (ends_of samplers) → HavePlaces t (length samplers) (ends_of samplers)
+    ensures begin { (t : TailoringParts) (rings : List Ring) (samplers : List (Sampler N)) → WithEach IsSamplerOf rings samplers → WithEach SettledSampler rings samplers
+        → HavePlaces t (length samplers) (ends_of samplers)
         → AreBetween N.Sensor t (sensors_of samplers) [] rings samplers }
     ensures count { (t : TailoringParts) (was : List N) (slots : List (List Moment)) (rings : List Ring) (samplers : List (Sampler N)) → AreBetween N.Sensor t was slots rings samplers
         → (length samplers ≡ length was) × (length rings ≡ length was) }

@@ -1,4 +1,4 @@
-use Rattle.sampled_slots.proofs.OrderLemmas.{samplers-paired, ends-paired, settled-out, new-paired, new-out}
+use Rattle.sampled_slots.proofs.OrderLemmas.{samplers-paired, ends-paired, same-seats, settled-out, new-paired, new-out}
 use Rattle.sampled_slots.proofs.laws.samplers_hold_ends.Goals as goal
 
 pub returns-clause-samplers : goal.returns-clause-samplers
@@ -12,3 +12,6 @@ returns-clause-settled g c = settled-out
 
 pub returns-clause-new_ends : goal.returns-clause-new_ends
 returns-clause-new_ends g c rings ends h = (new-paired rings ends h, new-out rings ends h)
+
+pub returns-clause-same : goal.returns-clause-same
+returns-clause-same g c = same-seats

@@ -9,10 +9,10 @@ use Rattle.board_steps.specs.Cores.{Core}
 use Rattle.sampler_threads.specs.Samplings.{AreFresh, HavePlaces, NoneFiled}
 use Rattle.sampler_threads.specs.Slots.{AreSampled, CanOrderAll, IsEndOf, IsSamplerOf, Ring, SettledSampler, WithEach, ends_of}
 use Rattle.sampler_threads.specs.declared.slot.Sampler.{Sampler}
-use Rattle.board_runs.specs.Samplers.{HaveSampled}
-use Rattle.sampled_slots.specs.Seats.{AreBetween, AreFiled, AreFiledInPart, AreTakenOut, HaveCounted, HaveOrders, HaveSeats, HaveStayed, sensors_of}
+use Rattle.board_runs.specs.Samplers.{AreCounted, HaveSampled}
+use Rattle.sampled_slots.specs.Seats.{AreBetween, AreFiled, AreFiledInPart, AreTakenOut, HaveOrders, HaveSeats, HaveStayed, sensors_of}
 use Rattle.sampled_slots.proofs.SeatLemmas.{all-part, all-sure, all-whole}
-use Rattle.sampled_slots.proofs.CountLemmas.{counted-more, slot-counted, slot-spent}
+use Rattle.sampled_slots.proofs.CountLemmas.{counted-more, slot-counted, slot-at-end}
 use Rattle.sampled_slots.proofs.OrderLemmas.{AreApartEach, AreDistinctEach, AreDueWhereUnfiled, all-can, all-fresh, ends-paired, places-more, samplers-paired, settled-out, stayed-first, stayed-more}
 
 module _ {S : Type 0} (g : Ghosts S) where
@@ -22,7 +22,7 @@ module _ {S : Type 0} (g : Ghosts S) where
       let same : length samplers ≡ length (sensors_of samplers) = sym (length-map samplers (λ (s : Sampler S). s.sensor)) in
       record {
         sampled = tt;
-        counted = inr (inr (omega arith));
+        counted = inr (omega arith);
         stayed = stayed-first g (sensors_of samplers);
         places = subst (λ n. HavePlaces t n (ends_of samplers)) same places;
         paired = ends-paired rings samplers paired;
@@ -41,7 +41,7 @@ module _ {S : Type 0} (g : Ghosts S) where
   between-ordered t was slots rings samplers others h sensors ends =
       record {
         sampled = h.sampled;
-        counted = subst (λ is. HaveCounted g t was is slots) (sym sensors) h.counted;
+        counted = subst (λ is. AreCounted g t was is slots) (sym sensors) h.counted;
         stayed = subst (λ is. HaveStayed g was is) (sym sensors) h.stayed;
         places = subst (λ es. HavePlaces t (length was) es) (sym ends) h.places;
         paired = subst (λ es. WithEach IsEndOf rings es) (sym ends) h.paired;
@@ -68,7 +68,7 @@ module _ {S : Type 0} (g : Ghosts S) where
       record {
         sampled = (all-whole g t was (length slots) moments samplers after fit seats filed, all-sure g t was (length slots) moments samplers after fit seats filed, h.sampled);
         counted = counted-more g t was (sensors_of samplers) (sensors_of after) moments slots h.counted
-            (slot-spent g t moments samplers after sampled.count filed)
+            (slot-at-end g t moments samplers after sampled.count filed)
             (slot-counted g t was (length slots) moments samplers after fit some seats sampled.count filed);
         stayed = stayed-more g t was samplers after h.stayed sampled;
         places = places-more g t t (length was) samplers after h.places sampled;

@@ -1,7 +1,7 @@
 -- How far the counts of faults rise while samplers sample.
-use Rattle.std.proofs.Common.{arith, ◌≡◌, ℕ, suc, ◌+◌, ◌-◌, ◌<◌, ◌≤◌, min, refl, sym, ap, subst, ◌∙◌, List, [], ◌∷◌, length, filter, Bool, true, false, ◌==◌, ◌⊎◌, inl, inr, ⊎_elim}
+use Rattle.std.proofs.Common.{arith, ◌≡◌, ℕ, suc, ◌+◌, ◌-◌, ◌<◌, ◌≤◌, min, refl, sym, ap, subst, ◌∙◌, List, [], ◌∷◌, length, filter, Bool, true, false, ◌⊎◌, inl, inr, ⊎_elim}
 use Rattle.std.specs.Prelude.{nat_le, slice_index_or}
-use Rattle.std.proofs.lemmas.Bool.{leb-true, leb-false, le-leb, eqb-true, eq-eqb, false≢true, or_left, or_right, or_cases}
+use Rattle.std.proofs.lemmas.Bool.{leb-true, leb-false, le-leb, false≢true, or_left, or_right, or_cases}
 use Rattle.std.proofs.lemmas.List.{length-map}
 use Rattle.hk_base.specs.Fit.{IsFit}
 use Rattle.hk_base.specs.Outside.{most_faults}
@@ -14,7 +14,7 @@ use Rattle.sampler_threads.specs.Samplings.{Filed, samples_of, is_ordered, sense
 use Rattle.sampler_threads.specs.Slots.{AreReadings, failures}
 use Rattle.sampler_threads.specs.declared.slot.Sampler.{Sampler}
 use Rattle.board_runs.specs.Samplers.{filings_of, faults_of, is_at_end, AreCounted}
-use Rattle.sampled_slots.specs.Seats.{sensors_of, HaveSeats, AreFiled, AreFaultCounts, is_spent, HaveCounted}
+use Rattle.sampled_slots.specs.Seats.{sensors_of, HaveSeats, AreFiled}
 use Rattle.sampled_slots.proofs.ParamLemmas.{dealt-own, sensed-apart}
 use Rattle.sampled_slots.proofs.ReadingLemmas.{filing, filings-read, filings-count, samples_among, readings-count}
 use Rattle.sampled_slots.proofs.SeatLemmas.{member}
@@ -63,7 +63,7 @@ module _ {S : Type 0} (g : Ghosts S) where
   -- the counts rise by as much, unless one has come to its end
   sums : (f : ℕ → ℕ) (i : ℕ) (xs ys : List (Sampler S)) → length ys ≡ length xs
       → ((k : ℕ) (s : Sampler S) → k < length xs → min (g.faults (slice_index_or xs k s).sensor + f (i + k)) most_faults ≤ g.faults (slice_index_or ys k s).sensor)
-      → (is_spent g (sensors_of ys) ≡ true) ⊎ (sum_from f i (length xs) + faults_of g (sensors_of xs) ≤ faults_of g (sensors_of ys))
+      → (is_at_end g (sensors_of ys) ≡ true) ⊎ (sum_from f i (length xs) + faults_of g (sensors_of xs) ≤ faults_of g (sensors_of ys))
   sums f i [] [] e h = inr (omega arith)
   sums f i [] (y ∷ ys) e h = absurd (omega (arith, e))
   sums f i (x ∷ xs) [] e h = absurd (omega (arith, e))
@@ -74,10 +74,10 @@ module _ {S : Type 0} (g : Ghosts S) where
       subst (λ j. min (g.faults (slice_index_or xs k s).sensor + f j) most_faults ≤ g.faults (slice_index_or ys k s).sensor) next (h (suc k) s (omega (arith, below)))))
     where
       by : (b : Bool) → nat_le most_faults (g.faults y.sensor) ≡ b
-          → (is_spent g (sensors_of ys) ≡ true) ⊎ (sum_from f (suc i) (length xs) + faults_of g (sensors_of xs) ≤ faults_of g (sensors_of ys))
-          → (is_spent g (sensors_of (y ∷ ys)) ≡ true) ⊎ ((f i + sum_from f (suc i) (length xs)) + (g.faults x.sensor + faults_of g (sensors_of xs)) ≤ g.faults y.sensor + faults_of g (sensors_of ys))
-      by true b rest = inl (or_left (nat_le most_faults (g.faults y.sensor)) (is_spent g (sensors_of ys)) b)
-      by false b (inl spent) = inl (or_right (nat_le most_faults (g.faults y.sensor)) (is_spent g (sensors_of ys)) spent)
+          → (is_at_end g (sensors_of ys) ≡ true) ⊎ (sum_from f (suc i) (length xs) + faults_of g (sensors_of xs) ≤ faults_of g (sensors_of ys))
+          → (is_at_end g (sensors_of (y ∷ ys)) ≡ true) ⊎ ((f i + sum_from f (suc i) (length xs)) + (g.faults x.sensor + faults_of g (sensors_of xs)) ≤ g.faults y.sensor + faults_of g (sensors_of ys))
+      by true b rest = inl (or_left (nat_le most_faults (g.faults y.sensor)) (is_at_end g (sensors_of ys)) b)
+      by false b (inl end) = inl (or_right (nat_le most_faults (g.faults y.sensor)) (is_at_end g (sensors_of ys)) end)
       by false b (inr rest) =
           let low = leb-false most_faults (g.faults y.sensor) b in
           let place : i + 0 ≡ i = omega arith in
@@ -85,34 +85,34 @@ module _ {S : Type 0} (g : Ghosts S) where
           inr (omega (arith, low, here, rest))
 
   -- a count that has come to its end stays there
-  pub spent-stays : (xs ys : List (Sampler S)) → length ys ≡ length xs
+  pub end-stays : (xs ys : List (Sampler S)) → length ys ≡ length xs
       → ((k : ℕ) (s : Sampler S) → k < length xs → min (g.faults (slice_index_or xs k s).sensor) most_faults ≤ g.faults (slice_index_or ys k s).sensor)
-      → is_spent g (sensors_of xs) ≡ true → is_spent g (sensors_of ys) ≡ true
-  spent-stays [] ys e h spent = absurd (false≢true spent)
-  spent-stays (x ∷ xs) [] e h spent = absurd (omega (arith, e))
-  spent-stays (x ∷ xs) (y ∷ ys) e h spent =
-      by (or_cases (nat_le most_faults (g.faults x.sensor)) (is_spent g (sensors_of xs)) spent)
-      (λ later. spent-stays xs ys (omega (arith, e)) (λ k s below. h (suc k) s (omega (arith, below))) later)
+      → is_at_end g (sensors_of xs) ≡ true → is_at_end g (sensors_of ys) ≡ true
+  end-stays [] ys e h end = absurd (false≢true end)
+  end-stays (x ∷ xs) [] e h end = absurd (omega (arith, e))
+  end-stays (x ∷ xs) (y ∷ ys) e h end =
+      by (or_cases (nat_le most_faults (g.faults x.sensor)) (is_at_end g (sensors_of xs)) end)
+      (λ later. end-stays xs ys (omega (arith, e)) (λ k s below. h (suc k) s (omega (arith, below))) later)
     where
-      by : (nat_le most_faults (g.faults x.sensor) ≡ true) ⊎ (is_spent g (sensors_of xs) ≡ true) → (is_spent g (sensors_of xs) ≡ true → is_spent g (sensors_of ys) ≡ true)
-          → is_spent g (sensors_of (y ∷ ys)) ≡ true
+      by : (nat_le most_faults (g.faults x.sensor) ≡ true) ⊎ (is_at_end g (sensors_of xs) ≡ true) → (is_at_end g (sensors_of xs) ≡ true → is_at_end g (sensors_of ys) ≡ true)
+          → is_at_end g (sensors_of (y ∷ ys)) ≡ true
       by (inl b) rest =
           let high = leb-true most_faults (g.faults x.sensor) b in
           let here : min (g.faults x.sensor) most_faults ≤ g.faults y.sensor = h 0 x (omega arith) in
-          or_left (nat_le most_faults (g.faults y.sensor)) (is_spent g (sensors_of ys)) (le-leb most_faults (g.faults y.sensor) (omega (arith, high, here)))
-      by (inr later) rest = or_right (nat_le most_faults (g.faults y.sensor)) (is_spent g (sensors_of ys)) (rest later)
+          or_left (nat_le most_faults (g.faults y.sensor)) (is_at_end g (sensors_of ys)) (le-leb most_faults (g.faults y.sensor) (omega (arith, high, here)))
+      by (inr later) rest = or_right (nat_le most_faults (g.faults y.sensor)) (is_at_end g (sensors_of ys)) (rest later)
 
   -- of a whole slot
   pub slot-counted : (t : TailoringParts) (was : List S) (slot : ℕ) (ms : List Moment) (samplers after : List (Sampler S)) → IsFit t → 0 < length was
       → HaveSeats g t was slot samplers → length after ≡ length samplers → AreFiled g t ms samplers after
-      → (is_spent g (sensors_of after) ≡ true)
+      → (is_at_end g (sensors_of after) ≡ true)
       ⊎ ((length (sensed t.params) - length (filings_of (sensed t.params) ms)) + faults_of g (sensors_of samplers) ≤ faults_of g (sensors_of after))
   slot-counted t was slot ms samplers after fit some seats same filed =
       let many : length samplers ≡ length was = sym (length-map samplers (λ (x : Sampler S). x.sensor)) ∙ seats.stayed.count in
       let one = λ (k : ℕ) (s : Sampler S) (below : k < length samplers).
       risen-by t (length was) k slot ms (slice_index_or samplers k s) (slice_index_or after k s) fit (seats.orders k s below) (filed k s below) in
       let all = total t (length was) ms fit some (λ k below. let here : k < length samplers = omega (arith, below, many) in (one k (member samplers k here) here).all) in
-      ⊎_elim (λ spent. inl spent)
+      ⊎_elim (λ end. inl end)
       (λ rest.
       let rise = subst (λ n. sum_from (missing_of t (length was) ms) 0 n + faults_of g (sensors_of samplers) ≤ faults_of g (sensors_of after)) many rest in
       inr (omega (arith, rise, all)))
@@ -121,44 +121,16 @@ module _ {S : Type 0} (g : Ghosts S) where
       subst (λ j. min (g.faults (slice_index_or samplers k s).sensor + missing_of t (length was) ms j) most_faults ≤ g.faults (slice_index_or after k s).sensor) place
       (one k s below).risen))
 
-  pub slot-spent : (t : TailoringParts) (ms : List Moment) (samplers after : List (Sampler S)) → length after ≡ length samplers → AreFiled g t ms samplers after
-      → is_spent g (sensors_of samplers) ≡ true → is_spent g (sensors_of after) ≡ true
-  slot-spent t ms samplers after same filed spent =
-      spent-stays samplers after same (λ k s below. let r = (filed k s below).3 in omega (arith, r)) spent
-
-  -- a count at its end has come to it
-  at-end-spent : (sensors : List S) → is_at_end g sensors ≡ true → is_spent g sensors ≡ true
-  at-end-spent [] e = absurd (false≢true e)
-  at-end-spent (x ∷ xs) e = by (or_cases (g.faults x == most_faults) (is_at_end g xs) e) (λ later. at-end-spent xs later)
-    where
-      by : (g.faults x == most_faults ≡ true) ⊎ (is_at_end g xs ≡ true) → (is_at_end g xs ≡ true → is_spent g xs ≡ true) → is_spent g (x ∷ xs) ≡ true
-      by (inl here) rest =
-          let same = eqb-true (g.faults x) most_faults here in
-          or_left (nat_le most_faults (g.faults x)) (is_spent g xs) (le-leb most_faults (g.faults x) (omega (arith, same)))
-      by (inr later) rest = or_right (nat_le most_faults (g.faults x)) (is_spent g xs) (rest later)
-
-  -- and one that has come to its end stands there, where it is a count
-  pub spent-at-end : (sensors : List S) → AreFaultCounts g sensors → is_spent g sensors ≡ true → is_at_end g sensors ≡ true
-  spent-at-end [] counts e = absurd (false≢true e)
-  spent-at-end (x ∷ xs) counts e = by (or_cases (nat_le most_faults (g.faults x)) (is_spent g xs) e) (λ later. spent-at-end xs counts.1 later)
-    where
-      by : (nat_le most_faults (g.faults x) ≡ true) ⊎ (is_spent g xs ≡ true) → (is_spent g xs ≡ true → is_at_end g xs ≡ true) → is_at_end g (x ∷ xs) ≡ true
-      by (inl here) rest =
-          let high = leb-true most_faults (g.faults x) here in
-          let low = counts.0 in
-          or_left (g.faults x == most_faults) (is_at_end g xs) (eq-eqb (g.faults x) most_faults (omega (arith, high, low)))
-      by (inr later) rest = or_right (g.faults x == most_faults) (is_at_end g xs) (rest later)
+  pub slot-at-end : (t : TailoringParts) (ms : List Moment) (samplers after : List (Sampler S)) → length after ≡ length samplers → AreFiled g t ms samplers after
+      → is_at_end g (sensors_of samplers) ≡ true → is_at_end g (sensors_of after) ≡ true
+  slot-at-end t ms samplers after same filed end =
+      end-stays samplers after same (λ k s below. let r = (filed k s below).3 in omega (arith, r)) end
 
   -- one slot more
-  pub counted-more : (t : TailoringParts) (was is after : List S) (ms : List Moment) (slots : List (List Moment)) → HaveCounted g t was is slots
-      → (is_spent g is ≡ true → is_spent g after ≡ true)
-      → (is_spent g after ≡ true) ⊎ ((length (sensed t.params) - length (filings_of (sensed t.params) ms)) + faults_of g is ≤ faults_of g after)
-      → HaveCounted g t was after (ms ∷ slots)
-  counted-more t was is after ms slots (inl spent) stays one = inl (stays spent)
-  counted-more t was is after ms slots (inr (inl end)) stays one = inl (stays (at-end-spent is end))
-  counted-more t was is after ms slots (inr (inr few)) stays (inl spent) = inl spent
-  counted-more t was is after ms slots (inr (inr few)) stays (inr more) = inr (inr (omega (arith, few, more)))
-
-  pub counted-all : (t : TailoringParts) (was is : List S) (slots : List (List Moment)) → AreFaultCounts g is → HaveCounted g t was is slots → AreCounted g t was is slots
-  counted-all t was is slots counts (inl spent) = inl (spent-at-end is counts spent)
-  counted-all t was is slots counts (inr h) = h
+  pub counted-more : (t : TailoringParts) (was is after : List S) (ms : List Moment) (slots : List (List Moment)) → AreCounted g t was is slots
+      → (is_at_end g is ≡ true → is_at_end g after ≡ true)
+      → (is_at_end g after ≡ true) ⊎ ((length (sensed t.params) - length (filings_of (sensed t.params) ms)) + faults_of g is ≤ faults_of g after)
+      → AreCounted g t was after (ms ∷ slots)
+  counted-more t was is after ms slots (inl end) stays one = inl (stays end)
+  counted-more t was is after ms slots (inr few) stays (inl end) = inl end
+  counted-more t was is after ms slots (inr few) stays (inr more) = inr (omega (arith, few, more))

@@ -1,8 +1,7 @@
 -- Samplers with their orders, from slot to slot of a run.
-use Rattle.std.specs.Prelude.{◌≡◌, ◌⊎◌, ◌<◌, ℕ, List, length, map, Bool, true, nat_le, slice_index_or}
-use Rattle.std.specs.List.{AllByRecursion, list_any}
+use Rattle.std.specs.Prelude.{◌≡◌, ◌<◌, ℕ, List, length, map, slice_index_or}
 use Rattle.rtrb.specs.Ring.{received}
-use Rattle.hk_base.specs.Outside.{GivesAlike, StaysSure, IsCount, most_faults}
+use Rattle.hk_base.specs.Outside.{GivesAlike, StaysSure}
 use Rattle.hk_base.specs.TailoringParts.{TailoringParts}
 use Rattle.hk_base.specs.declared.outside.Sensor.{Ghosts}
 use Rattle.hk_world.specs.declared.moment.Moment.{Moment}
@@ -48,22 +47,10 @@ AreFiled {S} g t moments samplers after =
 abbrev pub AreFiledInPart : {S : Type 0} → Ghosts S → TailoringParts → List Moment → List (Sampler S) → Type 0
 AreFiledInPart {S} g t moments samplers = (k : ℕ) (s : Sampler S) → k < length samplers → FiledPart g t moments (slice_index_or samplers k s)
 
--- no count of faults has passed its end
-abbrev pub AreFaultCounts : {S : Type 0} → Ghosts S → List S → Type 0
-AreFaultCounts g sensors = AllByRecursion (λ sensor. IsCount (g.faults sensor)) sensors
-
--- a count of faults has come to its end
-abbrev pub is_spent : {S : Type 0} → Ghosts S → List S → Bool
-is_spent g sensors = list_any (λ sensor. nat_le most_faults (g.faults sensor)) sensors
-
--- the counts of faults rose by as much as some slots have orders without a filing, unless one has come to its end
-abbrev pub HaveCounted : {S : Type 0} → Ghosts S → TailoringParts → List S → List S → List (List Moment) → Type 0
-HaveCounted g t was is slots = (is_spent g is ≡ true) ⊎ AreCounted g t was is slots
-
 -- Samplers between two slots of a run: what was filed so far is as a run allows, and each sampler can go on with its end and its sensor.
 pub record AreBetween {S : Type 0} (g : Ghosts S) (t : TailoringParts) (was : List S) (slots : List (List Moment)) (rings : List Ring) (samplers : List (Sampler S)) : Type 0 where
   pub sampled : AreSampled g t was slots
-  pub counted : HaveCounted g t was (sensors_of samplers) slots
+  pub counted : AreCounted g t was (sensors_of samplers) slots
   pub stayed : HaveStayed g was (sensors_of samplers)
   pub places : HavePlaces t (length was) (ends_of samplers)
   pub paired : WithEach IsEndOf rings (ends_of samplers)

@@ -11,8 +11,8 @@ ghost use Rattle.sampler_threads.specs.declared.end.SamplerEnd.{SamplerEnd};
 ghost use Rattle.sampler_threads.specs.Slots.{AreSampled, CanOrderAll, FreshEnd, IsEndOf, IsSamplerOf, Ring, SettledSampler, WithEach, ends_of};
 ghost use Rattle.sampler_threads.specs.declared.slot.Sampler.{Sampler};
 ghost use Rattle.board_runs.specs.Runs.{HasDone, HasRun};
-ghost use Rattle.board_runs.specs.Samplers.{AreCounted, HaveBeenSure, HaveSampled, faults_of, filings_of, sensed};
-ghost use Rattle.sampled_slots.specs.Seats.{AreBetween, AreFaultCounts, AreFiled, AreFiledInPart, AreTakenOut, HaveCounted, HaveOrders, HaveSeats, HaveStayed, is_spent, sensors_of};
+ghost use Rattle.board_runs.specs.Samplers.{AreCounted, HaveBeenSure, HaveSampled, faults_of, filings_of, is_at_end, sensed};
+ghost use Rattle.sampled_slots.specs.Seats.{AreBetween, AreFiled, AreFiledInPart, AreTakenOut, HaveOrders, HaveSeats, HaveStayed, sensors_of};
 
 use board_steps::{boards, slots, steps};
 use hk_base::Sensor;
@@ -37,17 +37,15 @@ pub fn slots_are_sampled<N: Sensor>()
 {}
 
 /// No more orders of a whole slot are left without a filing than the counts of faults rise by, unless a count has come to its
-/// end, where it stays. So it is of all slots of a run. A count that has come to its end stands there, since no read leaves a
-/// greater one.
+/// end, where it stays. So it is of all slots of a run.
 pub fn slots_are_counted<N: Sensor>()
     ensures counted { (t : TailoringParts) (was : List N) (slot : ℕ) (moments : List Moment) (samplers after : List (Sampler N)) → IsFit t → 0 < length was
         → HaveSeats N.Sensor t was slot samplers → length after ≡ length samplers → AreFiled N.Sensor t moments samplers after
-        → (is_spent N.Sensor (sensors_of after) ≡ true) ⊎ ((length (sensed t) - length (filings_of (sensed t) moments)) + faults_of N.Sensor (sensors_of samplers) ≤ faults_of N.Sensor (sensors_of after)) }
-    ensures first { (t : TailoringParts) (was : List N) → HaveCounted N.Sensor t was was [] }
+        → (is_at_end N.Sensor (sensors_of after) ≡ true) ⊎ ((length (sensed t) - length (filings_of (sensed t) moments)) + faults_of N.Sensor (sensors_of samplers) ≤ faults_of N.Sensor (sensors_of after)) }
+    ensures first { (t : TailoringParts) (was : List N) → AreCounted N.Sensor t was was [] }
     ensures more { (t : TailoringParts) (was : List N) (slot : ℕ) (moments : List Moment) (slots : List (List Moment)) (samplers after : List (Sampler N)) → IsFit t → 0 < length was
         → HaveSeats N.Sensor t was slot samplers → length after ≡ length samplers → AreFiled N.Sensor t moments samplers after
-        → HaveCounted N.Sensor t was (sensors_of samplers) slots → HaveCounted N.Sensor t was (sensors_of after) (moments ∷ slots) }
-    ensures all { (t : TailoringParts) (was is : List N) (slots : List (List Moment)) → AreFaultCounts N.Sensor is → HaveCounted N.Sensor t was is slots → AreCounted N.Sensor t was is slots }
+        → AreCounted N.Sensor t was (sensors_of samplers) slots → AreCounted N.Sensor t was (sensors_of after) (moments ∷ slots) }
 {}
 
 /// Samplers with their own orders for the slot that runs can take them, and they are due, where no sensed parameter is filed

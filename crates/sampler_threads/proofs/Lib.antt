@@ -15,3 +15,4 @@ pub mod EventLemmas
 pub mod PartLemmas
 pub mod OrderLaws
 pub mod CrewLemmas
+pub mod TestLemmas

@@ -1,13 +1,15 @@
-ghost use Rattle.std.specs.Prelude.{◌≤◌, List, IfOk};
-ghost use Rattle.sampler_threads.specs.Executors.{core_of, rings_of};
-ghost use Rattle.sampler_threads.specs.Slots.{AreSmall, CanOrderAll, IsEndOf, IsSamplerOf, Ring, WithEach};
+ghost use Rattle.std.specs.Prelude.{◌≡◌, ◌<◌, ◌≤◌, ◌×◌, length, IfOk, OnOk};
+ghost use Rattle.sampler_threads.specs.Executors.{core_of, count_of, rings_of};
+ghost use Rattle.sampler_threads.specs.Samples.{places_of};
+ghost use Rattle.sampler_threads.specs.Samplings.{HavePlaces};
+ghost use Rattle.sampler_threads.specs.Slots.{AreKnown, AreSmall, CanOrderAll, FreshEnd, IsEndOf, IsSamplerOf, WithEach};
 
 use crate::{
     At, Executor, Freeway, Gate, Item, Order, Sampler, SamplerEnd, Taken, run_slot, samplers_of,
 };
 use board_core::{BoardCore, BoardFault};
-use hk_base::{Items, Memory, Octets, TableSensor, Tailoring, Value, builtin};
-use hk_world::Act;
+use hk_base::{Items, Memory, Octets, TableSensor, Value, builtin};
+use hk_world::{Act, Journal};
 use std::alloc::Global;
 use std::sync::Wait;
 use std::sync::atomic::{AtomicU64, Ordering};
@@ -55,7 +57,7 @@ impl Gate for Meeting {
             {
                 return;
             }
-            if turn % 1024 == 0 {
+            if turn % 65_536 == 65_535 {
                 thread::yield_now();
             }
         }
@@ -63,7 +65,7 @@ impl Gate for Meeting {
     }
 }
 
-/// A gate at which an arm lets others go first, now and then.
+/// A gate at which an arm lets others go first, at random.
 #[derive(Drop)]
 struct Turnstile {
     state: AtomicU64,
@@ -74,7 +76,8 @@ impl Gate for Turnstile {
         let state = self
             .state
             .fetch_add(0x9e37_79b9_7f4a_7c15, Ordering::SeqCst);
-        if state >> 60 == 0 {
+        let mixed = (state ^ (state >> 30)).wrapping_mul(0xbf58_476d_1ce4_e5b9);
+        if mixed >> 62 == 0 {
             thread::yield_now();
         }
     }
@@ -124,11 +127,11 @@ fn uplinks(alloc: Global) -> Result<Vec<Octets>, Memory>
     Ok(uplinks)
 }
 
-/// The parameters that were filed, in order.
-fn filed(alloc: Global, core: &BoardCore) -> Result<Vec<u32>, Memory> {
+/// The parameters that were filed from this moment on, in order.
+fn filed(alloc: Global, journal: &Journal, first: u32) -> Result<Vec<u32>, Memory> {
     let mut params = Vec::new(alloc);
-    for number in 0..core.journal().len() {
-        if let Some(moment) = core.journal().at(number) {
+    for number in first..journal.len() {
+        if let Some(moment) = journal.at(number) {
             if let Act::Filed(param, _, _) = moment.act {
                 params.push(param)?;
             }
@@ -151,74 +154,216 @@ fn is_in_order(params: &[u32], orders: &[Order]) -> bool {
     next == orders.len()
 }
 
-/// What a slot did: how many moments came, which parameters were filed, and whether those of each sampler were so in order.
-#[derive(Drop)]
-struct Done {
-    moments: u32,
-    params: Vec<u32>,
-    in_order: bool,
+/// Whether a packet is a report of housekeeping structure 3.
+fn is_report(packet: &[u8]) -> bool {
+    packet.len() > 19 && packet[7] == 3 && packet[8] == 25 && packet[19] == 3
 }
 
-/// A board's executor with so many samplers, the sensor of one of which fails at a call.
-fn crew(
-    alloc: Global,
-    count: u32,
-    failing: (u32, u32),
-) -> Result<(Executor, Vec<Sampler<TableSensor>>), Memory>
+/// How many such reports were sent from this moment on.
+fn count_reports(journal: &Journal, first: u32) -> u32 {
+    let mut count = 0u32;
+    for number in first..journal.len() {
+        if let Some(moment) = journal.at(number) {
+            if is_report(moment.packet.as_slice()) {
+                count = count.saturating_add(1);
+            }
+        }
+    }
+    count
+}
+
+/// What a slot filed and sent.
+#[derive(Clone, Copy, Debug, PartialEq, Eq, Drop)]
+struct Seen {
+    /// How many values were filed.
+    filed: usize,
+    /// The parameter that was filed last.
+    last: Option<u32>,
+    /// Whether the parameters of each sampler were filed once, in the order of its orders.
+    in_order: bool,
+    /// How many reports of housekeeping structure 3 were sent.
+    reports: u32,
+}
+
+/// A slot with 13 samples, and with the value of the parameter that is settable, which comes last.
+const WHOLE: Seen = Seen {
+    filed: 14,
+    last: Some(7),
+    in_order: true,
+    reports: 0,
+};
+
+/// A board's executor with so many samplers' ends.
+fn executor_of(alloc: Global, count: u32) -> Result<(Executor, Items<SamplerEnd>), Memory>
     requires { (1 ≤ count) × (count ≤ 16) }
-    ensures { IfOk result (λ r. WithEach IsSamplerOf (rings_of r.0) r.1.items × CanOrderAll (core_of r.0).tailoring r.1.items) }
+    ensures fresh { IfOk result (λ r. WithEach FreshEnd (rings_of r.0) r.1) }
+    ensures places { IfOk result (λ r. HavePlaces (core_of r.0).tailoring (count_of r.0) r.1) }
 {
     let core = BoardCore::new(alloc, builtin(alloc)?)?;
-    let (executor, ends) = Executor::new(alloc, core, count)?;
-    let sensors = sensors(alloc, &executor, count, failing)?;
+    Executor::new(alloc, core, count)
+}
+
+/// Samplers with these ends of an executor, the sensor of one of which fails at a call.
+fn samplers_with(
+    alloc: Global,
+    executor: &Executor,
+    ends: Items<SamplerEnd>,
+    count: u32,
+    failing: (u32, u32),
+) -> Result<Vec<Sampler<TableSensor>>, Memory>
+    requires fresh { WithEach FreshEnd (rings_of executor.now) ends }
+    requires places { HavePlaces (core_of executor.now).tailoring (count_of executor.now) ends }
+    ensures ends { IfOk result (λ v. WithEach IsSamplerOf (rings_of executor.now) v.items) }
+    ensures orders { IfOk result (λ v. CanOrderAll (core_of executor.now).tailoring v.items) }
+{
+    let sensors = sensors(alloc, executor, count, failing)?;
     if sensors.len() != ends.as_slice().len() {
         return Err(Memory);
     }
-    let samplers = samplers_of(alloc, &executor, ends, sensors)?;
-    Ok((executor, samplers))
+    samplers_of(alloc, executor, ends, sensors)
 }
 
-/// What the executor has filed, and whether the samples of each sampler are there once and in order.
-fn done_by(
+/// Gives a sampler its orders for the slot that runs, and a sensor that doesn't fail.
+fn renew_one(
     alloc: Global,
     executor: &Executor,
+    number: usize,
+    sampler: &mut Sampler<TableSensor>,
+) -> Result<(), Memory>
+    ensures end { sampler.new.end ≡ sampler.old.end }
+    ensures known { OnOk result (AreKnown (core_of executor.now).tailoring sampler.new.orders) }
+    ensures room { OnOk result (length sampler.new.orders < places_of sampler.new.end) }
+{
+    let _fit = executor.core().tailoring().widths();
+    let orders = executor.orders(u32::try_from(number).unwrap_or(u32::MAX))?;
+    if orders.as_slice().len() >= sampler.end.producer.capacity() {
+        return Err(Memory);
+    }
+    sampler.sensor = table(alloc, orders.as_slice(), 0)?;
+    sampler.orders = orders;
+    Ok(())
+}
+
+/// Gives all samplers their orders for the slot that runs.
+fn renew(
+    alloc: Global,
+    executor: &Executor,
+    samplers: &mut [Sampler<TableSensor>],
+) -> Result<(), Memory>
+    requires { WithEach IsSamplerOf (rings_of executor.now) samplers.old }
+    ensures ends { OnOk result (WithEach IsSamplerOf (rings_of executor.now) samplers.new) }
+    ensures orders { OnOk result (CanOrderAll (core_of executor.now).tailoring samplers.new) }
+{
+    for k in 0..samplers.len() {
+        renew_one(alloc, executor, k, &mut samplers[k])?;
+    }
+    Ok(())
+}
+
+/// What was filed and sent from this moment on.
+fn seen_from(
+    alloc: Global,
+    journal: &Journal,
     samplers: &[Sampler<TableSensor>],
-    moments: u32,
-) -> Result<Done, Memory> {
-    let params = filed(alloc, executor.core())?;
+    first: u32,
+) -> Result<Seen, Memory> {
+    let params = filed(alloc, journal, first)?;
     let mut in_order = true;
     for sampler in samplers {
         in_order &= is_in_order(params.as_slice(), sampler.orders.as_slice());
     }
-    Ok(Done {
-        moments,
-        params,
+    Ok(Seen {
+        filed: params.len(),
+        last: params.last().copied(),
         in_order,
+        reports: count_reports(journal, first),
     })
 }
 
-/// Runs the first slot of a board with so many samplers, one of which fails at a call of its sensor.
-fn one_slot<R: Threads + Wait + Sync, G: Gate + Sync>(
+/// Runs a slot.
+fn see_slot<R: Threads + Wait + Sync, G: Gate + Sync>(
+    rt: &R,
+    alloc: Global,
+    executor: &mut Executor,
+    samplers: &mut [Sampler<TableSensor>],
+    uplinks: &[Octets],
+    gate: &G,
+) -> Result<Seen, BoardFault>
+    requires ends { WithEach IsSamplerOf (rings_of executor.old) samplers.old }
+    requires orders { CanOrderAll (core_of executor.old).tailoring samplers.old }
+    requires size { AreSmall uplinks.now }
+    ensures { WithEach IsSamplerOf (rings_of executor.new) samplers.new }
+{
+    let first = executor.core().journal().len();
+    run_slot(rt, alloc, executor, samplers, uplinks, gate)?;
+    Ok(seen_from(alloc, executor.core().journal(), samplers, first)?)
+}
+
+/// Runs the next slot, without uplinks.
+fn see_next<R: Threads + Wait + Sync, G: Gate + Sync>(
+    rt: &R,
+    alloc: Global,
+    executor: &mut Executor,
+    samplers: &mut [Sampler<TableSensor>],
+    gate: &G,
+) -> Result<Seen, BoardFault>
+    requires { WithEach IsSamplerOf (rings_of executor.old) samplers.old }
+    ensures { IfOk result (λ seen. WithEach IsSamplerOf (rings_of executor.new) samplers.new) }
+{
+    renew(alloc, executor, samplers)?;
+    see_slot(rt, alloc, executor, samplers, &[], gate)
+}
+
+/// Runs so many slots, the first of them with the uplinks.
+fn see_slots<R: Threads + Wait + Sync, G: Gate + Sync>(
+    rt: &R,
+    alloc: Global,
+    executor: &mut Executor,
+    samplers: &mut [Sampler<TableSensor>],
+    slots: u32,
+    gate: &G,
+) -> Result<Vec<Seen>, BoardFault>
+    requires ends { WithEach IsSamplerOf (rings_of executor.old) samplers.old }
+    requires orders { CanOrderAll (core_of executor.old).tailoring samplers.old }
+{
+    let uplinks = uplinks(alloc)?;
+    let mut seen = Vec::new(alloc);
+    let first = see_slot(rt, alloc, executor, samplers, uplinks.as_slice(), gate)?;
+    put(&mut seen, first)?;
+    for _slot in 1..slots {
+        let next = see_next(rt, alloc, executor, samplers, gate)?;
+        put(&mut seen, next)?;
+    }
+    Ok(seen)
+}
+
+fn put(seen: &mut Vec<Seen>, slot: Seen) -> Result<(), Memory> {
+    seen.push(slot)?;
+    Ok(())
+}
+
+/// Runs the first slots of a board with so many samplers, the sensor of one of which fails at a call in the first slot.
+fn see_board<R: Threads + Wait + Sync, G: Gate + Sync>(
     rt: &R,
     alloc: Global,
     count: u32,
     failing: (u32, u32),
+    slots: u32,
     gate: &G,
-) -> Result<Done, BoardFault> {
+) -> Result<Vec<Seen>, BoardFault> {
     if count == 0 || count > 16 {
         return Err(BoardFault::Memory);
     }
-    let (mut executor, mut samplers) = crew(alloc, count, failing)?;
-    let uplinks = uplinks(alloc)?;
-    let moments = run_slot(
+    let (mut executor, ends) = executor_of(alloc, count)?;
+    let mut samplers = samplers_with(alloc, &executor, ends, count, failing)?;
+    see_slots(
         rt,
         alloc,
         &mut executor,
         samplers.as_mut_slice(),
-        uplinks.as_slice(),
+        slots,
         gate,
-    )?;
-    Ok(done_by(alloc, &executor, samplers.as_slice(), moments)?)
+    )
 }
 
 const NONE: (u32, u32) = (0, 0);
@@ -226,10 +371,10 @@ const NONE: (u32, u32) = (0, 0);
 #[test]
 fn both_arms_meet(rt: HostRuntime) -> Result<(), Fail> {
     let gate = meeting_of(2);
-    let Ok(done) = one_slot(&rt, rt.alloc(), 1, NONE, &gate) else {
+    let Ok(seen) = see_board(&rt, rt.alloc(), 1, NONE, 1, &gate) else {
         return Err("no slot".into());
     };
-    assert_eq!(rt; done.params.len(), 14);
+    assert_eq!(rt; seen.as_slice(), [WHOLE].as_slice());
     assert_eq!(rt; gate.missed.load(Ordering::SeqCst), 0);
     assert_eq!(rt; gate.all.load(Ordering::SeqCst), 2);
     Ok(())
@@ -238,12 +383,25 @@ fn both_arms_meet(rt: HostRuntime) -> Result<(), Fail> {
 #[test]
 fn all_arms_meet(rt: HostRuntime) -> Result<(), Fail> {
     let gate = meeting_of(5);
-    let Ok(done) = one_slot(&rt, rt.alloc(), 4, NONE, &gate) else {
+    let Ok(seen) = see_board(&rt, rt.alloc(), 4, NONE, 1, &gate) else {
         return Err("no slot".into());
     };
-    assert_eq!(rt; done.params.len(), 14);
+    assert_eq!(rt; seen.as_slice(), [WHOLE].as_slice());
     assert_eq!(rt; gate.missed.load(Ordering::SeqCst), 0);
     assert_eq!(rt; gate.all.load(Ordering::SeqCst), 5);
+    Ok(())
+}
+
+#[test]
+fn a_structure_is_reported(rt: HostRuntime) -> Result<(), Fail> {
+    let Ok(seen) = see_board(&rt, rt.alloc(), 4, NONE, 3, &Freeway) else {
+        return Err("no slot".into());
+    };
+    let reported = Seen {
+        reports: 1,
+        ..WHOLE
+    };
+    assert_eq!(rt; seen.as_slice(), [WHOLE, WHOLE, reported].as_slice());
     Ok(())
 }
 
@@ -252,28 +410,37 @@ fn all_is_filed_once_and_in_order(rt: HostRuntime) -> Result<(), Fail> {
     let gate = Turnstile {
         state: AtomicU64::new(1),
     };
-    for _slot in 0..1000u32 {
-        let Ok(done) = one_slot(&rt, rt.alloc(), 8, NONE, &gate) else {
-            return Err("no slot".into());
-        };
-        // 13 samples and the value that is settable, which comes last
-        assert!(rt; done.in_order && done.params.len() == 14);
-        assert_eq!(rt; done.params.last().copied(), Some(7));
+    let Ok(seen) = see_board(&rt, rt.alloc(), 8, NONE, 1000, &gate) else {
+        return Err("no slot".into());
+    };
+    assert_eq!(rt; seen.len(), 1000);
+    for slot in seen.as_slice() {
+        assert_eq!(rt;
+            Seen {
+                reports: 0,
+                ..*slot
+            },
+            WHOLE
+        );
     }
     Ok(())
 }
 
 #[test]
 fn sensors_fail(rt: HostRuntime) -> Result<(), Fail> {
+    let missed = Seen {
+        filed: 13,
+        in_order: false,
+        ..WHOLE
+    };
     // 13 parameters among four samplers: the first has four
     for number in 0..4u32 {
         let calls = if number == 0 { 4u32 } else { 3 };
         for call in 1..=calls {
-            let Ok(done) = one_slot(&rt, rt.alloc(), 4, (number, call), &Freeway) else {
+            let Ok(seen) = see_board(&rt, rt.alloc(), 4, (number, call), 1, &Freeway) else {
                 return Err("no slot".into());
             };
-            assert_eq!(rt; done.params.len(), 13);
-            assert_eq!(rt; done.params.last().copied(), Some(7));
+            assert_eq!(rt; seen.as_slice(), [missed].as_slice());
         }
     }
     Ok(())
@@ -283,8 +450,7 @@ fn sensors_fail(rt: HostRuntime) -> Result<(), Fail> {
 fn one_end(alloc: Global) -> Result<(Executor, Vec<SamplerEnd>), Memory>
     ensures { IfOk result (λ r. WithEach IsEndOf (rings_of r.0) r.1.items) }
 {
-    let core = BoardCore::new(alloc, builtin(alloc)?)?;
-    let (executor, ends) = Executor::new(alloc, core, 1)?;
+    let (executor, ends) = executor_of(alloc, 1)?;
     Ok((executor, ends.into_vec()))
 }
 
@@ -302,32 +468,32 @@ fn with_value(value: Option<Value>) -> Item {
 
 /// What comes of an order at the first end, where there is one and the tailoring has the parameter.
 fn takes(
-    tailoring: &Tailoring,
+    executor: &Executor,
     order: Order,
     ends: &mut [SamplerEnd],
     sensor: &mut TableSensor,
 ) -> Option<Taken>
-    ensures { (rings : List Ring) → WithEach IsEndOf rings ends.old → WithEach IsEndOf rings ends.new }
+    requires { WithEach IsEndOf (rings_of executor.now) ends.old }
+    ensures { WithEach IsEndOf (rings_of executor.now) ends.new }
 {
-    if ends.is_empty() {
+    let tailoring = executor.core().tailoring();
+    if ends.is_empty() || tailoring.param(order.param).is_none() {
         return None;
     }
-    match tailoring.param(order.param) {
-        Some(_) => Some(ends[0].take(tailoring, order, sensor)),
-        None => None,
-    }
+    Some(ends[0].take(tailoring, order, sensor))
 }
 
 /// How often the first order was sent before the item came back.
 fn fill(
-    tailoring: &Tailoring,
+    executor: &Executor,
     ends: &mut [SamplerEnd],
     sensor: &mut TableSensor,
 ) -> (u32, Option<Item>)
-    ensures { (rings : List Ring) → WithEach IsEndOf rings ends.old → WithEach IsEndOf rings ends.new }
+    requires { WithEach IsEndOf (rings_of executor.now) ends.old }
+    ensures { WithEach IsEndOf (rings_of executor.now) ends.new }
 {
     for sent in 0..100 {
-        if let Some(Taken::Overrun(item)) = takes(tailoring, FIRST, ends, sensor) {
+        if let Some(Taken::Overrun(item)) = takes(executor, FIRST, ends, sensor) {
             return (sent, Some(item));
         }
     }
@@ -337,10 +503,9 @@ fn fill(
 /// A ring that was full: how many items it took, the one that came back, how many moments it made to take what was sent, whether
 /// the item went in then, and whether the sample was filed.
 fn full_ring(alloc: Global) -> Result<(u32, Option<Item>, Option<u32>, bool, bool), Memory> {
-    let tailoring = builtin(alloc)?;
     let (mut executor, mut ends) = one_end(alloc)?;
     let mut sensor = table(alloc, &[FIRST], 0)?;
-    let (sent, back) = fill(&tailoring, ends.as_mut_slice(), &mut sensor);
+    let (sent, back) = fill(&executor, ends.as_mut_slice(), &mut sensor);
     let count = executor.settle(ends.as_mut_slice()).ok();
     let mut goes_in = false;
     if let Some(item) = back {
@@ -361,12 +526,15 @@ fn a_full_ring_hands_back(rt: HostRuntime) -> Result<(), Fail> {
     Ok(())
 }
 
-/// A reading that failed: what was sent, how many moments it made to take it, and how many there are.
+/// A reading of the sampler's first order that failed: what was sent, how many moments it made to take it, and how many there are.
 fn failed_reading(alloc: Global) -> Result<(Option<Taken>, Option<u32>, u32), Memory> {
-    let tailoring = builtin(alloc)?;
     let (mut executor, mut ends) = one_end(alloc)?;
-    let mut sensor = table(alloc, &[FIRST], 1)?;
-    let taken = takes(&tailoring, FIRST, ends.as_mut_slice(), &mut sensor);
+    let orders = executor.orders(0)?;
+    let mut sensor = table(alloc, orders.as_slice(), 1)?;
+    let Some(first) = orders.as_slice().first() else {
+        return Err(Memory);
+    };
+    let taken = takes(&executor, *first, ends.as_mut_slice(), &mut sensor);
     let count = executor.settle(ends.as_mut_slice()).ok();
     Ok((taken, count, executor.core().journal().len()))
 }
@@ -382,20 +550,27 @@ fn a_failed_reading_files_nothing(rt: HostRuntime) -> Result<(), Fail> {
 
 /// Three parameters are sampled, and then taken, with a look before it or not: whether all were sent, and how many moments it made.
 fn three_taken(alloc: Global, is_met: bool) -> Result<(bool, Option<u32>), Memory> {
-    let tailoring = builtin(alloc)?;
     let (mut executor, mut ends) = one_end(alloc)?;
     let orders = executor.orders(0)?;
     let mut sensor = table(alloc, orders.as_slice(), 0)?;
-    let mut is_sent = true;
-    for param in 1..4u32 {
-        let order = Order { param, slot: 0 };
-        let taken = takes(&tailoring, order, ends.as_mut_slice(), &mut sensor);
-        is_sent &= matches!(taken, Some(Taken::Sent(item)) if item.value.is_some());
-    }
+    let is_sent = take_three(&executor, ends.as_mut_slice(), &mut sensor);
     if is_met {
         executor.meet(ends.as_mut_slice());
     }
     Ok((is_sent, executor.drain().ok()))
+}
+
+/// Samples parameters 1, 2 and 3: whether all were sent, with values.
+fn take_three(executor: &Executor, ends: &mut [SamplerEnd], sensor: &mut TableSensor) -> bool
+    requires { WithEach IsEndOf (rings_of executor.now) ends.old }
+    ensures { WithEach IsEndOf (rings_of executor.now) ends.new }
+{
+    let mut is_sent = true;
+    for param in 1..4u32 {
+        let taken = takes(executor, Order { param, slot: 0 }, ends, sensor);
+        is_sent &= matches!(taken, Some(Taken::Sent(item)) if item.value.is_some());
+    }
+    is_sent
 }
 
 #[test]

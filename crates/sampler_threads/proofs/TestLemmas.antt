@@ -1,28 +1,38 @@
 -- What tests use of the ends and samplers that they make.
-use Rattle.std.proofs.Common.{◌≡◌, ℕ, ◌<◌, List, [], ◌∷◌, length, sym, ◌∙◌, subst, arith}
+use Rattle.std.proofs.Common.{◌≡◌, ℕ, ◌+◌, ◌<◌, Bool, true, false, ◌==◌, List, length, Result, Ok, Err, refl, sym, ◌∙◌, subst, arith}
+use Rattle.std.specs.Prelude.{IfOk}
 use lib.ListN.{get_or, set}
+use Rattle.std.proofs.lemmas.Bool.{eqb-true, eqb-false}
+use Rattle.std.proofs.lemmas.List.{length-set, get_or-set_same, get_or-set_other}
 use Rattle.rtrb.specs.Ring.{IsPair}
 use Rattle.board_steps.specs.Cores.{Core}
 use Rattle.sampler_threads.specs.Samples.{SameEnd}
 use Rattle.sampler_threads.specs.Samplings.{HavePlaces}
-use Rattle.sampler_threads.specs.Slots.{Ring, WithEach, FreshEnd, IsEndOf}
+use Rattle.sampler_threads.specs.Slots.{Ring, WithEach, FreshEnd, IsEndOf, IsSamplerOf}
 use Rattle.sampler_threads.specs.declared.end.SamplerEnd.{SamplerEnd}
+use Rattle.sampler_threads.specs.declared.slot.Sampler.{Sampler}
+
+-- a property of each place after one was set
+set_at : {X : Type 0} (P : ℕ → X → Type 0) (xs : List X) (k : ℕ) (y d : X) → k < length xs → P k y → ((i : ℕ) → P i (get_or xs i d))
+    → (b : Bool) (j : ℕ) → (k == j) ≡ b → P j (get_or (set xs k y) j d)
+set_at P xs k y d within here others true j e =
+    subst (λ i. P i (get_or (set xs k y) i d)) (eqb-true k j e) (subst (λ z. P k z) (sym (get_or-set_same xs k y d within)) here)
+set_at P xs k y d within here others false j e = subst (λ z. P j z) (sym (get_or-set_other xs k j y d (λ q. eqb-false k j e q))) (others j)
+
+-- what holds at each ring still holds once one member was set to another for which it does
+pub with_set : {X : Type 0} (R : Ring → X → Type 0) (rings : List Ring) (xs : List X) (k : ℕ) (y : X) → k < length xs
+    → ((r : Ring) (d : X) → R (get_or rings k r) (get_or xs k d) → R (get_or rings k r) y)
+    → WithEach R rings xs → WithEach R rings (set xs k y)
+with_set R rings xs k y within step w =
+    record {
+      count = length-set xs k y ∙ w.count;
+      each = λ j r x below.
+          set_at (λ i z. i < length rings → R (get_or rings i r) z) xs k y x within (λ b. step r x (w.each k r x b)) (λ i b. w.each i r x b) (k == j) j refl below;
+    }
 
 -- an end that stays what it is stays that of its ring
-end_kept : (a b : SamplerEnd) (r : Ring) → IsPair a.producer r → SameEnd a b → IsPair b.producer r
-end_kept a b r p s = (p.0 ∙ sym s.0.0, p.1 ∙ sym s.0.1, p.2 ∙ sym s.0.2, p.3 ∙ sym s.0.3)
-
--- each end is that of its ring after something was done at the first
-each_set : (rings : List Ring) (e : SamplerEnd) (es : List SamplerEnd) (b : SamplerEnd) → SameEnd e b → WithEach IsEndOf rings (e ∷ es)
-    → (j : ℕ) (r : Ring) (x : SamplerEnd) → j < length rings → IsEndOf (get_or rings j r) (get_or (b ∷ es) j x)
-each_set rings e es b same w zero r x below = end_kept e b (get_or rings 0 r) (w.each 0 r x below) same
-each_set rings e es b same w (suc j) r x below = w.each (suc j) r x below
-
--- so the ends are those of the rings
-pub end_set : (rings : List Ring) (ends : List SamplerEnd) (b d : SamplerEnd) → 0 < length ends → SameEnd (get_or ends 0 d) b
-    → WithEach IsEndOf rings ends → WithEach IsEndOf rings (set ends 0 b)
-end_set rings [] b d some same w = absurd (omega (arith, some))
-end_set rings (e ∷ es) b d some same w = record { count = w.count; each = each_set rings e es b same w }
+pub end_kept : (a b : SamplerEnd) (r : Ring) → SameEnd a b → IsEndOf r a → IsEndOf r b
+end_kept a b r s p = (p.0 ∙ sym s.0.0, p.1 ∙ sym s.0.1, p.2 ∙ sym s.0.2, p.3 ∙ sym s.0.3)
 
 -- new ends are those of their rings
 pub fresh_ends : (rings : List Ring) (ends : List SamplerEnd) → WithEach FreshEnd rings ends → WithEach IsEndOf rings ends
@@ -33,3 +43,8 @@ pub same_places : (core made : Core) (samplers count : ℕ) (ends : List Sampler
     → HavePlaces core.tailoring samplers ends → HavePlaces made.tailoring count ends
 same_places core made samplers count ends same many places =
     subst (λ (c : Core). HavePlaces c.tailoring count ends) (sym same) (subst (λ n. HavePlaces core.tailoring n ends) (sym many) places)
+
+-- what follows from what an Ok has
+pub if_ok_map : {X E : Type 0} (r : Result X E) (P Q : X → Type 0) → ((x : X) → P x → Q x) → IfOk r P → IfOk r Q
+if_ok_map (Ok x) P Q f h = f x h
+if_ok_map (Err e) P Q f h = h

@@ -1,4 +1,4 @@
-ghost use Rattle.std.specs.Prelude.{◌≡◌, ◌<◌, ◌≤◌, ◌×◌, length, IfOk, OnOk};
+ghost use Rattle.std.specs.Prelude.{◌≡◌, ◌<◌, ◌≤◌, length, IfOk, OnOk};
 ghost use Rattle.sampler_threads.specs.Executors.{core_of, count_of, rings_of};
 ghost use Rattle.sampler_threads.specs.Samples.{places_of};
 ghost use Rattle.sampler_threads.specs.Samplings.{HavePlaces};

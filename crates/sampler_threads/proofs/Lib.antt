@@ -15,4 +15,3 @@ pub mod EventLemmas
 pub mod PartLemmas
 pub mod OrderLaws
 pub mod CrewLemmas
-pub mod TestLemmas

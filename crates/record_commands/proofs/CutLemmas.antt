@@ -1,13 +1,12 @@
 -- A record is read to its end, or to where it is cut.
-use Rattle.std.proofs.Common.{◌≡◌, inl, inr, ℕ, List, [], Option, Some, None, Result, Ok, Err, refl, sym, ap, subst, ◌∙◌}
-use Rattle.std.specs.Prelude.{◌⊎◌, IfSome, IsSome, MatchResult}
-use Rattle.session_record.specs.Records.{Entries, entry_before, fault_in}
+use Rattle.std.proofs.Common.{◌≡◌, inl, inr, ℕ, List, Option, Some, None, Result, Ok, Err, refl, sym, ap, subst, ◌∙◌}
+use Rattle.std.specs.Prelude.{IsSome, MatchResult}
+use Rattle.session_record.specs.Records.{Entries, fault_in}
 use Rattle.session_record.specs.Reading.{Reading, Answers, no_entries, reading_at_start, to_come}
 use Rattle.session_record.specs.declared.header.Header.{Header}
 use Rattle.session_record.specs.declared.entry.Entry.{Entry}
 use Rattle.session_record.specs.declared.entry.RecordFault.{RecordFault}
 use Rattle.session_record.specs.declared.entry.RecordFault.TheVariants.{Cut}
-use Rattle.program_edge.specs.Inputs.{IsReadOut}
 use Rattle.program_edge.proofs.ReaderLemmas.{read_out_at_end}
 use Rattle.record_commands.specs.Trimming.{HasReadWhole, IsCut, IsFirstWhole, IsKeptTo, IsReadTo, IsReadToCut, TakesWhole}
 use Rattle.record_commands.proofs.ToComeLemmas.{none_told}

@@ -1,9 +1,8 @@
 -- The lines of a text, one after the other, and the packets that are put.
-use Rattle.std.proofs.Common.{arith, ◌≡◌, ◌+◌, ◌<◌, ◌≤◌, zero-le, ℕ, suc, Bool, true, false, List, [], ◌∷◌, ◌++◌, length, take, drop, map, Option, Some, None, Result, Ok, Err, refl, sym, ap, subst, ◌∙◌, append_assoc, append-nil, add-one}
+use Rattle.std.proofs.Common.{arith, ◌≡◌, ◌+◌, ◌<◌, ◌≤◌, zero-le, ℕ, Bool, true, false, List, [], ◌∷◌, ◌++◌, length, take, drop, map, Option, Some, None, Result, Ok, Err, refl, sym, ap, subst, ◌∙◌, append_assoc, append-nil, add-one}
 use Rattle.std.specs.Prelude.{◌==◌, IfSome, OnOk, flat_map, if◌then◌else◌}
 use Rattle.hk_base.specs.TailoringParts.{TailoringParts}
 use Rattle.session_record.specs.Records.{entry_octets}
-use Rattle.session_record.specs.declared.entry.Entry.{Entry}
 use Rattle.session_record.specs.declared.entry.Entry.TheVariants.{Sent}
 use Rattle.program_edge.specs.Faults.{IsOfLines}
 use Rattle.program_edge.specs.Inputs.{IsReadOut, IsReadOutIfWhole, IsWhole}

@@ -1,10 +1,10 @@
 -- The lines that were written, with those still to come, stay the lines of the record.
-use Rattle.std.proofs.Common.{arith, ◌≡◌, ◌+◌, ◌-◌, ◌≤◌, zero-le, ℕ, Bool, zero, suc, true, false, List, [], ◌∷◌, ◌++◌, length, take, drop, Option, Some, None, Result, Ok, Err, refl, sym, ap, subst, ◌∙◌, append_assoc, append-nil, length-append}
+use Rattle.std.proofs.Common.{arith, ◌≡◌, ◌+◌, ◌-◌, ◌≤◌, zero-le, ℕ, zero, suc, true, false, List, [], ◌∷◌, ◌++◌, length, take, drop, Option, Some, None, Result, Ok, Err, refl, sym, ap, subst, ◌∙◌, append_assoc, append-nil, length-append}
 use Rattle.std.specs.Prelude.{IfSome, IsOk, IsSome, MatchResult, is_err}
 use Rattle.std.proofs.lemmas.List.{take-append-le}
 use Rattle.std.proofs.Math.Seq.{take-append_seam, take-append-add}
 use Rattle.hk_base.specs.TailoringParts.{TailoringParts}
-use Rattle.session_record.specs.Records.{Entries, entries_by, entries_from, after_header, header_in, next_entry, fault_in, read_record, record_fault}
+use Rattle.session_record.specs.Records.{Entries, entries_by, entries_from, after_header, header_in, next_entry, fault_in, record_fault}
 use Rattle.session_record.specs.Reading.{Reading, Answers, GoesOn, is_final, is_settled, is_settled_at, is_settled_header, no_entries, read_on, reading_at_start, to_come}
 use Rattle.session_record.specs.Writing.{Writes, WritesWithin}
 use Rattle.session_record.specs.declared.header.Header.{Header}

@@ -2,7 +2,6 @@
 use Rattle.std.specs.Prelude.{◌≡◌, ⊤, ℕ, ◌+◌, nat_lt, ◌==◌, Bool, true, false, List, [], ◌∷◌, ◌++◌, length, flat_map, map, Option, Some, None, Result, Ok, Err, if◌then◌else◌}
 use Rattle.hk_base.specs.TailoringParts.{TailoringParts}
 use Rattle.session_record.specs.Records.{entry_octets, header_of, record_octets}
-use Rattle.session_record.specs.declared.entry.Entry.{Entry}
 use Rattle.session_record.specs.declared.entry.Entry.TheVariants.{Sent}
 use Rattle.record_commands.specs.Packets.{line_packet}
 use Rattle.program_edge.specs.declared.fault.RunFault.{RunFault}

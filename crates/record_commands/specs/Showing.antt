@@ -1,5 +1,5 @@
 -- A line for each entry of a record, written before the next entry is read.
-use Rattle.std.specs.Prelude.{◌≡◌, ⊤, ℕ, ◌+◌, ◌≤◌, List, [], ◌++◌, length, flat_map, Option, Some, None, Result, Ok, Err, IfSome, IsSome}
+use Rattle.std.specs.Prelude.{◌≡◌, ⊤, ℕ, ◌≤◌, List, [], ◌++◌, length, flat_map, Option, Some, None, Result, Ok, Err, IfSome, IsSome}
 use Rattle.hk_base.specs.TailoringParts.{TailoringParts}
 use Rattle.session_record.specs.Records.{Entries, fault_in, read_record, record_fault}
 use Rattle.session_record.specs.Reading.{Reading, to_come}

@@ -1,18 +1,15 @@
 -- How much a reader takes of a shelf.
-use Rattle.std.proofs.Common.{arith, ◌≡◌, ◌≢◌, ◌+◌, ◌-◌, ◌<◌, ◌≤◌, ℕ, zero, suc, List, [], ◌∷◌, ◌++◌, length, take, drop, Bool, true, false, Option, Some, None, Result, Ok, Err, refl, sym, ap, subst, ◌∙◌, length-append}
-use Rattle.std.specs.Prelude.{IsSome, IfSome, nat_lt, nat_le, not, if◌then◌else◌}
+use Rattle.std.proofs.Common.{arith, ◌≡◌, ◌+◌, ◌<◌, ◌≤◌, ℕ, zero, suc, List, [], ◌∷◌, ◌++◌, length, take, drop, Bool, true, false, Option, Some, None, Result, Ok, Err, refl, sym, ap, subst, ◌∙◌, length-append}
+use Rattle.std.specs.Prelude.{IsSome, IfSome, nat_lt, nat_le, if◌then◌else◌}
 use Rattle.std.proofs.lemmas.List.{length-drop, length-take-le, take-append-le}
 use Rattle.std.proofs.lemmas.Bool.Decides.{nat_tests}
-use Rattle.std.proofs.lemmas.Grind.{common_steps}
 use Rattle.hk_base.specs.Fields.{number_of}
-use Rattle.session_record.specs.Records.{Header, most_octets, header_in, entry_of_kind, entry_after_kind, entry_size, held_octets, next_entry}
-use Rattle.session_record.specs.Faults.{IsReadError}
-use Rattle.session_record.specs.Reading.{Reading, IsWithin, AreTaken, TakesFew, HasHeader, Grows, is_settled, KeepsAhead, ahead, is_final, octets_taken, octets_taken_by, most_taken}
-use Rattle.session_record.specs.Steps.{HeldAlone, HeaderTaken, HeaderTakenAt, HeaderFound, EntryTaken, behind, is_ready, is_ready_at}
+use Rattle.session_record.specs.Records.{Header, most_octets, entry_of_kind, entry_after_kind, entry_size, held_octets, next_entry}
+use Rattle.session_record.specs.Reading.{Reading, IsWithin, AreTaken, TakesFew, HasHeader, Grows, is_settled, KeepsAhead, ahead, is_final, octets_taken, octets_taken_by}
+use Rattle.session_record.specs.Steps.{HeldAlone, HeaderTaken, HeaderTakenAt, EntryTaken, behind, is_ready, is_ready_at}
 use Rattle.session_record.specs.declared.entry.Entry.{Entry}
 use Rattle.session_record.specs.declared.entry.RecordFault.{RecordFault}
 use Rattle.session_record.specs.declared.entry.RecordFault.TheVariants.{BadMagic, BadKind, Cut, TooLong, TooManyEntries, ReadFault, Memory}
-use Rattle.session_record.proofs.NextLemmas.{header-long, next-more}
 use Rattle.session_record.proofs.TrimLemmas.{holds}
 use Rattle.session_record.proofs.ReadingLemmas.{settled-ready}
 

@@ -1,4 +1,4 @@
-use Rattle.std.proofs.Common.{List, ℕ, Option, Some, None, Ok, refl, rules, sym, ap, subst, ◌∙◌}
+use Rattle.std.proofs.Common.{List, ℕ, Option, Some, Ok, refl, rules, sym, ap, subst, ◌∙◌}
 use Rattle.std.proofs.lemmas.Result.{err_from_is_err_and}
 use Rattle.hk_base.specs.Outside.{HasRisen}
 use Rattle.session_record.specs.Reading.{Reading}

@@ -1,7 +1,7 @@
 use Rattle.std.proofs.Common.{List, ℕ, drop, arith, subst, ◌∙◌}
 use Rattle.session_record.specs.Reading.{Gains, ahead, KeepsAhead}
 use Rattle.session_record.proofs.HeldLemmas.{keeps-append}
-use Rattle.session_record.proofs.OnwardLemmas.{gains-append, gains-same}
+use Rattle.session_record.proofs.OnwardLemmas.{gains-append}
 use Rattle.session_record.proofs.held.Held.read_more.Goals as goal
 
 pub returns-clause-ahead : goal.returns-clause-ahead

@@ -11,15 +11,21 @@ invariant_of-self-then-branch-eq0 g c =
     let inside = c.self.inside in
     let r : Reading = record { header = inside.header; offset = inside.offset; room = inside.room; held = inside.held; fault = inside.fault; most = vec_len inside.piece } in
     let unready : is_ready c.loop-self.self ≡ false = search rules in
-    let open_still : is_ready r ≡ false = ap is_ready c.self.view_is ∙ unready in
-    (c.self.invariant.0, c.self.invariant.1, search rules,
-      grown-fields r c.read_more.new.self _ _ c.self.invariant.0 open_still c.self.invariant.3 c.in_ok-read_more.ensures.grows (search rules) (search rules))
+    let open_still : is_ready r ≡ false = ap is_ready c.self.view_is ∙ unready in (
+      c.self.invariant.0,
+      c.self.invariant.1,
+      search rules,
+      grown-fields r c.read_more.new.self _ _ c.self.invariant.0 open_still c.self.invariant.3 c.in_ok-read_more.ensures.grows (search rules) (search rules),
+    )
 
 pub invariant_of-self-else-branch-eq0 : goal.invariant_of-self-else-branch-eq0
 invariant_of-self-else-branch-eq0 g c =
     let inside = c.self.inside in
     let r : Reading = record { header = inside.header; offset = inside.offset; room = inside.room; held = inside.held; fault = inside.fault; most = vec_len inside.piece } in
     let unready : is_ready c.loop-self.self ≡ false = search rules in
-    let open_still : is_ready r ≡ false = ap is_ready c.self.view_is ∙ unready in
-    (c.self.invariant.0, c.self.invariant.1, search rules,
-      grown-fields r c.read_more.new.self _ _ c.self.invariant.0 open_still c.self.invariant.3 c.in_ok-read_more.ensures.grows (search rules) (search rules))
+    let open_still : is_ready r ≡ false = ap is_ready c.self.view_is ∙ unready in (
+      c.self.invariant.0,
+      c.self.invariant.1,
+      search rules,
+      grown-fields r c.read_more.new.self _ _ c.self.invariant.0 open_still c.self.invariant.3 c.in_ok-read_more.ensures.grows (search rules) (search rules),
+    )

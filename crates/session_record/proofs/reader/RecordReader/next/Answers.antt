@@ -1,6 +1,7 @@
 use Rattle.std.proofs.Common.{◌∙◌, Err, refl, ap, sym, subst}
-use Rattle.std.specs.Prelude.{Result, Option, ℕ}
-use Rattle.session_record.specs.Reading.{Reading, HasHeader, IsWithin, TakesFew, HoldsLess, octets_taken}
+use Rattle.std.specs.Prelude.{◌≡◌, List, Option, ℕ}
+use Rattle.session_record.specs.Reading.{Reading, AreTaken, HasHeader, IsWithin, TakesFew, HoldsLess, octets_taken}
+use Rattle.session_record.specs.declared.entry.RecordFault.{RecordFault}
 use Rattle.session_record.proofs.WithinLemmas.{taken-then, taken-same, few-self}
 use Rattle.session_record.proofs.ReadingLemmas.{again-answers, faulted-answers, lasting-counts, lasting-apart}
 use Rattle.session_record.proofs.OnwardLemmas.{again-onward, faulted-onward}
@@ -41,6 +42,10 @@ returns-clause-goes_on g c =
     faulted-onward c.args.self.now c.read_next-answer.new.self _ (g.F.Shelf.rest c.args.shelf.now) (g.F.Shelf.rest c.read_next-answer.new.shelf) result after
     c.read_next-answer.ensures.fault c.read_next-answer.ensures.goes_on
 
+-- keeping a fault takes nothing
+faulted-taken : (s0 s1 s2 : Reading) (fault : Option RecordFault) (r0 r1 : Option (List ℕ)) → s2 ≡ record s1 { fault = fault } → AreTaken s0 r0 s1 r1 → AreTaken s0 r0 s2 r1
+faulted-taken s0 s1 s2 fault r0 r1 is taken = taken-then s0 s1 s2 r0 r1 r1 taken (taken-same s1 s2 r1 (ap octets_taken is))
+
 pub returns-in-Some-clause-taken : goal.returns-in-Some-clause-taken
 returns-in-Some-clause-taken g c = taken-same c.args.self.now c.args.self.now (g.F.Shelf.rest c.args.shelf.now) refl
 
@@ -51,8 +56,8 @@ pub returns-clause-taken : goal.returns-clause-taken
 returns-clause-taken g c =
     let rest = g.F.Shelf.rest in
     let after = ap (λ (s : Reading). record s { fault = c.lasting_fault-self-inside.result }) c.self-2.view_is in
-    taken-then c.args.self.now c.read_next-answer.new.self _ (rest c.args.shelf.now) (rest c.read_next-answer.new.shelf) (rest c.read_next-answer.new.shelf)
-    c.read_next-answer.ensures.taken (taken-same c.read_next-answer.new.self _ (rest c.read_next-answer.new.shelf) (ap octets_taken after))
+    faulted-taken c.args.self.now c.read_next-answer.new.self _ c.lasting_fault-self-inside.result (rest c.args.shelf.now) (rest c.read_next-answer.new.shelf) after
+    c.read_next-answer.ensures.taken
 
 pub returns-clause-few : goal.returns-clause-few
 returns-clause-few g c =

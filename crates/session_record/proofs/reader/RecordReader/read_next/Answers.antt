@@ -153,8 +153,8 @@ returns-in_err-gather-2-clause-unsettled g c = λ _.
     ((kept c.args.self.now c.gather.new.self c.take_header.new.self c.gather-2.new.self c.in_ok-gather.ensures.held c.in_ok-take_header.ensures.header c.in_err-gather-2.ensures.held).2 ∙ c.requires)
     c.in_err-gather-2.ensures.err.1
 
-pub requires-take_entry : goal.requires-take_entry
-requires-take_entry g c =
+pub take_entry-requires : goal.take_entry-requires
+take_entry-requires g c =
     (kept c.args.self.now c.gather.new.self c.take_header.new.self c.gather-2.new.self c.in_ok-gather.ensures.held c.in_ok-take_header.ensures.header c.in_ok-gather-2.ensures.held).3
 
 pub returns-clause-taken : goal.returns-clause-taken

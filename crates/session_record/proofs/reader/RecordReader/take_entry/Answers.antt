@@ -1,9 +1,7 @@
 -- Behind an entry that is taken off less than a piece is held.
-use Rattle.std.proofs.Common.{◌≡◌, ◌<◌, ◌+◌, Option, Some, Result, Ok, length, subst, rules}
+use Rattle.std.proofs.Common.{◌≡◌, ◌<◌, Some, Ok, length, subst, rules}
 use Rattle.session_record.specs.Records.{entry_size, next_entry}
 use Rattle.session_record.specs.Reading.{Reading, IsWithin}
-use Rattle.session_record.specs.declared.entry.Entry.{Entry}
-use Rattle.session_record.specs.declared.entry.RecordFault.{RecordFault}
 use Rattle.session_record.proofs.WithinLemmas.{near-by, behind-less}
 use Rattle.session_record.proofs.reader.RecordReader.take_entry.Goals as goal
 

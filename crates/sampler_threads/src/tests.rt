@@ -504,9 +504,10 @@ fn fill(
 /// the item went in then, and whether the sample was filed.
 fn full_ring(alloc: Global) -> Result<(u32, Option<Item>, Option<u32>, bool, bool), Memory> {
     let (mut executor, mut ends) = one_end(alloc)?;
+    let ends = ends.as_mut_slice();
     let mut sensor = table(alloc, &[FIRST], 0)?;
-    let (sent, back) = fill(&executor, ends.as_mut_slice(), &mut sensor);
-    let count = executor.settle(ends.as_mut_slice()).ok();
+    let (sent, back) = fill(&executor, ends, &mut sensor);
+    let count = executor.settle(ends).ok();
     let mut goes_in = false;
     if let Some(item) = back {
         if let Some(end) = ends.first_mut() {
@@ -529,13 +530,14 @@ fn a_full_ring_hands_back(rt: HostRuntime) -> Result<(), Fail> {
 /// A reading of the sampler's first order that failed: what was sent, how many moments it made to take it, and how many there are.
 fn failed_reading(alloc: Global) -> Result<(Option<Taken>, Option<u32>, u32), Memory> {
     let (mut executor, mut ends) = one_end(alloc)?;
+    let ends = ends.as_mut_slice();
     let orders = executor.orders(0)?;
     let mut sensor = table(alloc, orders.as_slice(), 1)?;
     let Some(first) = orders.as_slice().first() else {
         return Err(Memory);
     };
-    let taken = takes(&executor, *first, ends.as_mut_slice(), &mut sensor);
-    let count = executor.settle(ends.as_mut_slice()).ok();
+    let taken = takes(&executor, *first, ends, &mut sensor);
+    let count = executor.settle(ends).ok();
     Ok((taken, count, executor.core().journal().len()))
 }
 
@@ -551,11 +553,12 @@ fn a_failed_reading_files_nothing(rt: HostRuntime) -> Result<(), Fail> {
 /// Three parameters are sampled, and then taken, with a look before it or not: whether all were sent, and how many moments it made.
 fn three_taken(alloc: Global, is_met: bool) -> Result<(bool, Option<u32>), Memory> {
     let (mut executor, mut ends) = one_end(alloc)?;
+    let ends = ends.as_mut_slice();
     let orders = executor.orders(0)?;
     let mut sensor = table(alloc, orders.as_slice(), 0)?;
-    let is_sent = take_three(&executor, ends.as_mut_slice(), &mut sensor);
+    let is_sent = take_three(&executor, ends, &mut sensor);
     if is_met {
-        executor.meet(ends.as_mut_slice());
+        executor.meet(ends);
     }
     Ok((is_sent, executor.drain().ok()))
 }

@@ -5,8 +5,9 @@ use Rattle.std.proofs.Math.Seq.{take-add, take-append-add}
 use Rattle.std.proofs.lemmas.List.{append-nil, append_assoc, take-append-le, length-append}
 use Rattle.hk_base.specs.declared.outside.Failed.{Failed}
 use Rattle.hk_base.specs.Outside.{Takes, UsesRoom}
-use Rattle.session_record.specs.Writing.{HasWritten, HasRoom, Writes}
+use Rattle.session_record.specs.Writing.{HasWritten, HasRoom, Writes, WritesShort}
 use Rattle.session_record.specs.declared.entry.WriteFault.{WriteFault}
+use Rattle.session_record.specs.declared.entry.WriteFault.TheVariants.{Failed as Unwritten, Memory}
 
 pub written-none : (before : Option (List ℕ)) (text : List ℕ) → HasWritten before text 0 before
 written-none None text = tt
@@ -59,3 +60,29 @@ writes-then front back (Err fault) (Some taken) mid after first second =
     let part = subst P first second in
     let sizes = length-append front back in
     (length front + part.0, omega (arith, part.1, sizes), part.2 ∙ ap Some (append_assoc taken front (take part.0 back) ∙ ap (λ xs. taken ++ xs) (sym (take-append-add front back part.0))))
+
+-- where the front of a text wasn't all taken, nor was the text
+pub short-front : (front back : List ℕ) (fault : WriteFault) (before after : Option (List ℕ)) → WritesShort front (Err fault) before after → WritesShort (front ++ back) (Err fault) before after
+short-front front back Memory before after short = tt
+short-front front back Unwritten before after short =
+    let sizes = length-append front back in
+    (short.0, omega (arith, short.1, sizes), told before short.2)
+  where
+    told : (before : Option (List ℕ)) → HasWritten before front short.0 after → HasWritten before (front ++ back) short.0 after
+    told None took = tt
+    told (Some taken) took = took ∙ ap (λ xs. Some (taken ++ xs)) (sym (take-append-le short.0 front back (omega (arith, short.1))))
+
+-- where the back of a text wasn't all taken, nor was the text
+pub short-then : (front back : List ℕ) (result : Result Unit WriteFault) (before mid after : Option (List ℕ)) → Writes front (Ok tt) before mid → WritesShort back result mid after
+    → WritesShort (front ++ back) result before after
+short-then front back (Ok done) before mid after first short = tt
+short-then front back (Err Memory) before mid after first short = tt
+short-then front back (Err Unwritten) before mid after first short =
+    let sizes = length-append front back in
+    (length front + short.0, omega (arith, short.1, sizes), told before first)
+  where
+    told : (before : Option (List ℕ)) → Writes front (Ok tt) before mid → HasWritten before (front ++ back) (length front + short.0) after
+    told None first = tt
+    told (Some taken) first =
+        let P : Option (List ℕ) → Type 0 = λ m. HasWritten m back short.0 after in
+        subst P first short.2 ∙ ap Some (append_assoc taken front (take short.0 back) ∙ ap (λ xs. taken ++ xs) (sym (take-append-add front back short.0)))

@@ -1,5 +1,5 @@
 -- What a writer gives to a sink.
-use Rattle.std.specs.Prelude.{◌≡◌, ℕ, ◌-◌, ◌≤◌, List, ◌++◌, length, take, Option, Some, Result, Ok, Err, IsOk, IfSome}
+use Rattle.std.specs.Prelude.{◌≡◌, ⊤, ℕ, ◌-◌, ◌<◌, ◌≤◌, List, ◌++◌, length, take, Option, Some, Result, Ok, Err, IsOk, IfSome}
 use Rattle.hk_base.specs.Outside.{HasRisen}
 use Rattle.session_record.specs.declared.entry.WriteFault.{WriteFault}
 use Rattle.session_record.specs.declared.entry.WriteFault.TheVariants.{Failed, Memory}
@@ -12,6 +12,11 @@ HasWritten before text count after = IfSome before (λ taken. after ≡ Some (ta
 abbrev pub Writes : List ℕ → Result Unit WriteFault → Option (List ℕ) → Option (List ℕ) → Type 0
 Writes text (Ok done) before after = IfSome before (λ taken. after ≡ Some (taken ++ text))
 Writes text (Err fault) before after = (count : ℕ) × (count ≤ length text) × HasWritten before text count after
+
+-- where writing failed, not all of a text was taken, whether or not the sink tells what it took
+abbrev pub WritesShort : List ℕ → Result Unit WriteFault → Option (List ℕ) → Option (List ℕ) → Type 0
+WritesShort text (Err Failed) before after = (count : ℕ) × (count < length text) × HasWritten before text count after
+WritesShort text result before after = ⊤
 
 -- Writing fails only where the count of the sink rose, and an Ok leaves it as it was. Memory never runs out.
 abbrev pub WriteCounts : Result Unit WriteFault → ℕ → ℕ → Type 0

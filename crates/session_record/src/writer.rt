@@ -2,7 +2,7 @@
 ghost use Rattle.std.specs.Prelude.{◌≡◌, ◌≤◌, ◌^◌, ◌∷◌, length};
 ghost use Rattle.hk_base.specs.Fields.{octets_of};
 ghost use Rattle.session_record.specs.Records.{entry_octets, header_octets, header_of, held_octets, kind_octet};
-ghost use Rattle.session_record.specs.Writing.{Writes, WriteCounts, WritesWithin};
+ghost use Rattle.session_record.specs.Writing.{Writes, WriteCounts, WritesShort, WritesWithin};
 
 use crate::entry::{Entry, WriteFault};
 use crate::header::Header;
@@ -16,6 +16,7 @@ impl RecordWriter {
     /// requests are used again in the session.
     pub fn begin<K: Sink>(sink: &mut K, known: bool, long: bool) -> Result<(), WriteFault>
         ensures written { Writes (header_octets (header_of known long)) result (K.taken sink.old) (K.taken sink.new) }
+        ensures short { WritesShort (header_octets (header_of known long)) result (K.taken sink.old) (K.taken sink.new) }
         ensures count { WriteCounts result (K.faults sink.old) (K.faults sink.new) }
         ensures room { WritesWithin (header_octets (header_of known long)) result (K.room sink.old) (K.room sink.new) }
     {
@@ -26,6 +27,7 @@ impl RecordWriter {
     pub fn put<K: Sink>(sink: &mut K, entry: &Entry) -> Result<(), WriteFault>
         requires { length (held_octets entry.now) ≤ 2 ^ 31 }
         ensures written { Writes (entry_octets entry.now) result (K.taken sink.old) (K.taken sink.new) }
+        ensures short { WritesShort (entry_octets entry.now) result (K.taken sink.old) (K.taken sink.new) }
         ensures count { WriteCounts result (K.faults sink.old) (K.faults sink.new) }
         ensures room { WritesWithin (entry_octets entry.now) result (K.room sink.old) (K.room sink.new) }
     {
@@ -62,6 +64,7 @@ impl Entry {
 /// Writes all of the octets, in as many pieces as the sink takes. It takes no memory.
 pub fn write_all<K: Sink>(sink: &mut K, octets: &[u8]) -> Result<(), WriteFault>
     ensures written { Writes octets.now result (K.taken sink.old) (K.taken sink.new) }
+    ensures short { WritesShort octets.now result (K.taken sink.old) (K.taken sink.new) }
     ensures count { WriteCounts result (K.faults sink.old) (K.faults sink.new) }
     ensures room { WritesWithin octets.now result (K.room sink.old) (K.room sink.new) }
 {

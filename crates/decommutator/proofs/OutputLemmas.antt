@@ -4,7 +4,7 @@ use Rattle.std.specs.Prelude.{IfSome}
 use Rattle.std.proofs.Math.Seq.{take-append-add, take-append_seam}
 use Rattle.std.proofs.lemmas.List.{append-nil, take-append-le}
 use Rattle.hk_base.specs.Outside.{HasRisen}
-use Rattle.session_record.specs.Writing.{Writes, WriteCounts, WritesWithin}
+use Rattle.session_record.specs.Writing.{Writes, WriteCounts, WritesShort, WritesWithin}
 use Rattle.session_record.specs.declared.entry.WriteFault.{WriteFault}
 use Rattle.session_record.specs.declared.entry.WriteFault.TheVariants.{Failed, Memory}
 use Rattle.decommutator.specs.Output.{Seen, IsUnderWay, HasEnded, Proceeds, FinishesWithin}
@@ -75,6 +75,15 @@ part-more was from now text part octets rest fault whole took writes =
         let last : IfSome (Some (w ++ part)) (λ t. now ≡ Some (t ++ take count octets)) = subst (λ o. IfSome o (λ t. now ≡ Some (t ++ take count octets))) took writes.2 in
         last ∙ ap Some (append_assoc w part (take count octets) ∙ ap (λ l. w ++ l) (sym front))
 
+-- where a piece of the text wasn't all taken, nor was the text
+part-short : (was from now : Option (List ℕ)) (text part octets rest : List ℕ) → text ≡ part ++ (octets ++ rest)
+    → IfSome was (λ w. from ≡ Some (w ++ part)) → WritesShort octets (Err Failed) from now → WritesShort text (Err Failed) was now
+part-short was from now text part octets rest whole took short =
+    let few : short.0 ≤ length octets = omega (arith, short.1) in
+    let sizes : length text ≡ length part + (length octets + length rest) =
+    ap length whole ∙ length-append part (octets ++ rest) ∙ ap (λ n. length part + n) (length-append octets rest) in
+    (length part + short.0, omega (arith, sizes, short.1), (part-more was from now text part octets rest Failed whole took (short.0, few, short.2)).2)
+
 -- where the room is enough for the text, a piece of it isn't refused
 room-refused : (was from now : Option ℕ) (text part octets rest : List ℕ) → text ≡ part ++ (octets ++ rest)
     → IfSome was (λ r. length text ≤ r → from ≡ Some (r - length part)) → WritesWithin octets (Err Failed) from now
@@ -88,11 +97,13 @@ room-refused (Some r) from now text part octets rest whole left writes = λ fits
 
 -- a piece that wasn't written, or only a first part of it
 pub piece-failed : (octets others : List ℕ) (fault : WriteFault) (from now : Seen) → Writes octets (Err fault) from.taken now.taken
-    → WriteCounts (Err fault) from.faults now.faults → WritesWithin octets (Err fault) from.room now.room → Proceeds octets from (Err fault) others now
-piece-failed octets others Memory from now writes count within = absurd count
-piece-failed octets others Failed from now writes count within = λ text rest before under.
+    → WritesShort octets (Err fault) from.taken now.taken → WriteCounts (Err fault) from.faults now.faults → WritesWithin octets (Err fault) from.room now.room
+    → Proceeds octets from (Err fault) others now
+piece-failed octets others Memory from now writes short count within = absurd count
+piece-failed octets others Failed from now writes short count within = λ text rest before under.
     record {
       written = part-more before.taken from.taken now.taken text under.part octets rest Failed under.whole under.took writes;
+      short = part-short before.taken from.taken now.taken text under.part octets rest under.whole under.took short;
       count = subst (λ n. (n ≤ now.faults) × HasRisen n now.faults) under.count count;
       room = room-refused before.room from.room now.room text under.part octets rest under.whole under.room within;
     }
@@ -100,7 +111,7 @@ piece-failed octets others Failed from now writes count within = λ text rest be
 -- want of memory while a text is under way
 pub memory-ends : (text ahead : List ℕ) (before now : Seen) → IsUnderWay text ahead before now → HasEnded text (Err Memory) before now
 memory-ends text ahead before now under =
-    record { written = (length under.part, omega (arith, sizes), told before.taken under.took); count = under.count; room = room before.room }
+    record { written = (length under.part, omega (arith, sizes), told before.taken under.took); short = tt; count = under.count; room = room before.room }
   where
     sizes : length text ≡ length under.part + length ahead
     sizes = ap length under.whole ∙ length-append under.part ahead
@@ -119,7 +130,7 @@ memory-ends text ahead before now under =
 -- a text that was written whole
 pub whole-ends : (text : List ℕ) (before now : Seen) → IsUnderWay text [] before now → HasEnded text (Ok tt) before now
 whole-ends text before now under =
-    record { written = told before.taken under.took; count = under.count; room = room before.room }
+    record { written = told before.taken under.took; short = tt; count = under.count; room = room before.room }
   where
     same : under.part ≡ text
     same = sym (under.whole ∙ append-nil under.part)

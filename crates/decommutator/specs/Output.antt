@@ -2,7 +2,7 @@
 use Rattle.std.specs.Prelude.{◌≡◌, ⊤, ℕ, ◌-◌, ◌≤◌, List, ◌++◌, length, Option, Some, Result, Ok, Err, IfSome}
 use Rattle.hk_base.specs.Outside.{HasRisen}
 use Rattle.hk_base.specs.declared.outside.Sink.{Ghosts}
-use Rattle.session_record.specs.Writing.{Writes}
+use Rattle.session_record.specs.Writing.{Writes, WritesShort}
 use Rattle.session_record.specs.declared.entry.WriteFault.{WriteFault}
 use Rattle.session_record.specs.declared.entry.WriteFault.TheVariants.{Failed, Memory}
 
@@ -47,6 +47,7 @@ pub record IsUnderWay (text ahead : List ℕ) (before now : Seen) : Type 0 where
 -- writing a text ended so
 pub record HasEnded (text : List ℕ) (result : Result Unit WriteFault) (before now : Seen) : Type 0 where
   pub written : Writes text result before.taken now.taken
+  pub short : WritesShort text result before.taken now.taken
   pub count : FinishCounts result before.faults now.faults
   pub room : FinishesWithin text result before.room
 

@@ -2,7 +2,7 @@
 ghost use Rattle.std.specs.Prelude.{◌≡◌, ◌≤◌, ◌<◌, ◌^◌, [], Some, IfOk, IsSome, length};
 ghost use Rattle.ground_history.specs.Ground.{IsAnswer, IsGrounded};
 ghost use Rattle.session_record.specs.Records.{held_octets};
-ghost use Rattle.session_record.specs.Writing.{Writes};
+ghost use Rattle.session_record.specs.Writing.{Writes, WritesShort};
 ghost use Rattle.decommutator.specs.Standing.{new_standing, entry_answer, after_entry, after_unfollowed, ground_of, standing_text, standing_tally};
 ghost use Rattle.hk_world.specs.Worlds.{World};
 ghost use Rattle.session_texts.specs.Truth.{HasTrueReasons, HaveRisingTags, IsTrueText};
@@ -136,6 +136,7 @@ impl Decommutator {
     pub fn close<K: Sink>(self, sink: &mut K) -> Result<(), WriteFault>
         requires followed { IsSome self.waiting }
         ensures written { Writes (closing_text self) result (K.taken sink.old) (K.taken sink.new) }
+        ensures short { WritesShort (closing_text self) result (K.taken sink.old) (K.taken sink.new) }
         ensures count { FinishCounts result (K.faults sink.old) (K.faults sink.new) }
         ensures room { FinishesWithin (closing_text self) result (K.room sink.old) }
     {
@@ -164,6 +165,7 @@ impl Decommutator {
     /// Writes the whole text of the entries: the blocks of the kept reports in the order of tags, and then the counts.
     pub fn finish<K: Sink>(&self, sink: &mut K) -> Result<(), WriteFault>
         ensures written { Writes (standing_text self.now.standing) result (K.taken sink.old) (K.taken sink.new) }
+        ensures short { WritesShort (standing_text self.now.standing) result (K.taken sink.old) (K.taken sink.new) }
         ensures count { FinishCounts result (K.faults sink.old) (K.faults sink.new) }
         ensures room { FinishesWithin (standing_text self.now.standing) result (K.room sink.old) }
         ensures truth { (w : World) → IsStandingIn w self.now.standing → IsTrueText w (standing_text self.now.standing) }

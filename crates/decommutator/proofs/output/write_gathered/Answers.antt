@@ -15,7 +15,7 @@ returns-in_err-write_all-clause-proceeds g c =
     let P : List ℕ → Type 0 = λ octets. Proceeds octets from (Err fault) [] now in
     let Q : Result Unit WriteFault → Type 0 = λ result. Proceeds c.args.out.now.items from result [] now in
     let R : WriteFault → Type 0 = λ f. Proceeds c.args.out.now.items from (Err f) [] now in
-    subst Q (sym p.1) (subst R (sym p.2) (subst P c.as_slice.ensures.value (piece-failed c.as_slice.result.now [] fault from now told.written told.count told.room)))
+    subst Q (sym p.1) (subst R (sym p.2) (subst P c.as_slice.ensures.value (piece-failed c.as_slice.result.now [] fault from now told.written told.short told.count told.room)))
 
 pub returns-clause-proceeds : goal.returns-clause-proceeds
 returns-clause-proceeds g c =

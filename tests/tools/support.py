@@ -14,12 +14,21 @@ TOOLS = TOP / 'tools'
 EXAMPLES = TOP / 'examples'
 PROGRAM = pathlib.Path(os.environ.get('HK_REPLAY', TOP / 'crates/hk_replay/out/hk_replay'))
 
+BOARD = pathlib.Path(os.environ.get('HK_BOARD', TOP / 'crates/hk_board/out/hk_board'))
+
 
 def needs_program(test):
     """Marks a test that runs hk_replay: it is skipped where that isn't built, unless HK_REPLAY_NEEDED=1 says that it has to be."""
     if PROGRAM.is_file() or os.environ.get('HK_REPLAY_NEEDED') == '1':
         return test
     return unittest.skip("hk_replay isn't built")(test)
+
+
+def needs_board(test):
+    """The same of hk_board."""
+    if BOARD.is_file() or os.environ.get('HK_REPLAY_NEEDED') == '1':
+        return test
+    return unittest.skip("hk_board isn't built")(test)
 
 
 def needs(command):

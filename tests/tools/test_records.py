@@ -10,7 +10,7 @@ import sys
 import tempfile
 import unittest
 
-from support import EXAMPLES, TOOLS, TOP, entries, entry, needs, needs_program, replay, run, tcp_capture
+from support import BOARD, EXAMPLES, TOOLS, TOP, entries, entry, needs, needs_board, needs_program, replay, run, tcp_capture
 
 sys.path.insert(0, str(TOOLS))
 import hkrec  # noqa: E402
@@ -476,6 +476,30 @@ class Split(unittest.TestCase):
         _, wanted = self.requests()
         status, record, _ = replay('encode', 'builtin', EXAMPLES / 'requests.txt')
         self.assertEqual(status, 0)
+        self.assertEqual(header_lines(run('split_record', '-', given=record)[1], *UDP), wanted)
+
+    @needs_board
+    @needs('tshark')
+    def test_packets_that_a_board_writes(self):
+        """A board that reports for 4,000 slots, through a link that repeats and delays. What tshark reads of each packet is compared with its
+        octets; what was sent are requests and what came are reports, of APID 100, unsegmented."""
+        lines = ['start known', 'slots 4000', 'seed 3', 'loss 0 0', 'repeat 0 20', 'delay 3']
+        lines += [f'send {2 * n} 1864c0{n:02x}00062f0305000101{1 + n % 6:02x}' for n in range(6)]
+        with tempfile.NamedTemporaryFile(suffix='.script') as script:
+            script.write(''.join(f'{line}\n' for line in lines).encode())
+            script.flush()
+            record = subprocess.run([BOARD, 'run', 'builtin', script.name], stdout=subprocess.PIPE, check=True).stdout
+        wanted, at = [], 8
+        while at < len(record):
+            kind, size = record[at:at + 1], int.from_bytes(record[at + 1:at + 5], 'big')
+            packet = record[at + 5:at + 5 + size]
+            at += 5 + size
+            if kind != b'J':
+                first, second, length = struct.unpack('>HHH', packet[:6])
+                self.assertEqual((first & 0xf7ff, second >> 14, length), (0x1064 if kind == b'S' else 0x0064, 3, size - 7))
+                wanted.append((0, int(kind == b'S'), 100, 3, second & 0x3fff, size - 7))
+        self.assertEqual(sum(kind for _, kind, *_ in wanted), 6)
+        self.assertGreater(len(wanted), 1000)
         self.assertEqual(header_lines(run('split_record', '-', given=record)[1], *UDP), wanted)
 
     def test_the_octets_of_a_capture(self):

@@ -56,14 +56,15 @@ def makes(command):
 
 
 def uses(command, names):
-    """Whether a command uses one of these."""
-    return any(re.search(rf'(^|[\s$/]){re.escape(name)}($|[\s/])', command) for name in names)
+    """Whether a command uses one of these. A file of examples/ is there whatever was skipped."""
+    rest = re.sub(r'\bexamples/\S+', '', command)
+    return any(re.search(rf'(^|[\s$/]){re.escape(name)}($|[\s/])', rest) for name in names)
 
 
 class Page(unittest.TestCase):
     def plan(self, text):
         """The commands that are run, with what they print, and those that are skipped, with the reason."""
-        run, skipped, lacking, made = [], [], set(), set()
+        run, skipped, lacking = [], [], set()
         last_skipped, folder = None, None
         for command, printed in commands(text):
             why = missing(command)
@@ -72,12 +73,11 @@ class Page(unittest.TestCase):
             if why is None and folder and ('cd ' in command or '$OLDPWD' in command):
                 why = folder
             if why:
-                lacking |= makes(command) - made
+                lacking |= makes(command)
                 skipped.append((command, why))
                 folder = why if command.startswith('cd ') else folder
             else:
                 run.append((command, printed))
-                made |= makes(command)
             last_skipped = why
         return run, skipped
 
@@ -119,6 +119,7 @@ class Page(unittest.TestCase):
         self.assertEqual(makes('x s.db examples/a.rec'), {'s.db'})
         self.assertTrue(uses('cmp - a.rec', {'a.rec'}))
         self.assertFalse(uses('cmp - aa.rec', {'a.rec'}))
+        self.assertFalse(uses('cmp - examples/a.rec', {'a.rec'}))
 
 
 if __name__ == '__main__':

@@ -23,7 +23,8 @@ use Rattle.hk_replay.specs.Faults.{status_of_following}
 use Rattle.hk_replay.specs.Outcomes.{Outcome, listed, stopped, status_of_problem, follow_outcome}
 use Rattle.hk_replay.specs.Words.{Command, on_record, replay, follow, show, encode, check, trim, generate}
 use Rattle.hk_replay.specs.Replay.{HasOutput}
-use Rattle.hk_replay.specs.Inputs.{StandsFor, Tells, TellsOf, IsToFollow}
+use Rattle.program_edge.specs.Tailorings.{StandsFor}
+use Rattle.hk_replay.specs.Inputs.{Tells, TellsOf, IsToFollow}
 use Rattle.hk_replay.specs.Truth.{IsRecordOf, IsPartOf, IsFollowOf}
 use Rattle.hk_replay.specs.declared.status.ReplayStatus.{ReplayStatus}
 use Rattle.hk_replay.specs.declared.status.ReplayStatus.TheVariants.{Done, Usage, Tailoring, Record, ReadFault, WriteFault, NoMemory, Text}

@@ -17,9 +17,11 @@ use Rattle.session_texts.specs.Texts.{text}
 use Rattle.session_texts.specs.Truth.{IsSeenIn}
 use Rattle.session_texts.specs.declared.problem.RecordProblem.{RecordProblem}
 use Rattle.hk_replay.specs.Outcomes.{Outcome, written, stopped, unless_problem, session_text, replay_outcome}
-use Rattle.hk_replay.specs.Words.{TailoringName, standard, in_file, Command, on_record, replay, follow, show, encode, check, trim, generate}
+use Rattle.program_edge.specs.Names.{TailoringName, standard, in_file}
+use Rattle.program_edge.specs.Tailorings.{octets_of, fault_of_file, IsMeaning, StandsFor}
+use Rattle.hk_replay.specs.Words.{Command, on_record, replay, follow, show, encode, check, trim, generate}
 use Rattle.hk_replay.specs.Replay.{HasOutput}
-use Rattle.hk_replay.specs.Inputs.{octets_of, fault_of_file, IsMeaning, StandsFor, IsTailoring, Tells, TellsOf, Replays}
+use Rattle.hk_replay.specs.Inputs.{IsTailoring, Tells, TellsOf, Replays}
 use Rattle.hk_replay.specs.Truth.{IsRecordOf, IsRunOf}
 use Rattle.hk_replay.specs.declared.status.ReplayStatus.{ReplayStatus}
 use Rattle.hk_replay.specs.declared.status.ReplayStatus.TheVariants.{Done, Usage, Tailoring, Record, ReadFault, WriteFault, NoMemory, Text}
@@ -81,7 +83,7 @@ stands_for files (in_file name) t is = go (octets_of files name) is.0 is.1
   where
     go : (o : Option (List ℕ)) → IfSome o (λ octets. IsOf octets t) → IsSome o
         → (IfSome o (λ octets. IsMeaning octets (Ok t)) × IsSome o) ⊎ ((fault : TailoringFault) × (IfSome o (λ octets. IsMeaning octets (Err fault)) × IsSome o))
-    go None here some = absurd some
+    go None here some = absurd (cc some)
     go (Some octets) here some = by (meaning octets t here (fault_of_file octets) refl)
       where
         by : IsMeaning octets (Ok t) ⊎ ((fault : TailoringFault) × IsMeaning octets (Err fault))

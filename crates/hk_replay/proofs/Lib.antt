@@ -1,7 +1,9 @@
 pub mod SessionLemmas
 pub mod TakingLemmas
+pub mod StatusLemmas
 pub mod GeneratingLemmas
 pub mod HeadlineLemmas
 pub mod ShownLemmas
-pub mod TailoringLemmas
 pub mod FollowedLemmas
+pub mod CutLemmas
+pub mod RunLemmas

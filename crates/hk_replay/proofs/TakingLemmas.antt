@@ -139,7 +139,7 @@ nothing_written None text = (0, omega arith, tt)
 nothing_written (Some taken) text = (0, omega arith, ap Some (sym (append-nil taken)))
 
 -- a run that ended while it read wrote nothing
-ended_early : (status : ReplayStatus) (outcome : Outcome) (before : Option (List ℕ)) → IsReadingStatus status → EndsWith status outcome → HasOutput status outcome before before
+pub ended_early : (status : ReplayStatus) (outcome : Outcome) (before : Option (List ℕ)) → IsReadingStatus status → EndsWith status outcome → HasOutput status outcome before before
 ended_early status.Done outcome before reading ends = absurd reading
 ended_early status.Usage outcome before reading ends = absurd reading
 ended_early status.WriteFault outcome before reading ends = absurd reading
@@ -185,3 +185,8 @@ start_output stands t q (Some octets) rest before fault answer =
 pub still_told : (result : Result (Option (ℕ × Entry)) RecordFault) (r q : Reading) (was rest : Option (List ℕ)) → Answers result r was q rest → IsSome was → IsSome rest
 still_told result r q None rest answer told = absurd (none_told told)
 still_told result r q (Some octets) rest answer told = answer.1
+
+-- what was told is told still
+pub kept_told : (before : Standing) (start : Reading) (was : Option (List ℕ)) (s : Standing) (r : Reading) (rest : Option (List ℕ)) → KeepsOutcome before start was s r rest → IsSome was → IsSome rest
+kept_told before start None s r rest keeps some = absurd (none_told some)
+kept_told before start (Some octets) s r rest keeps some = keeps.1

@@ -6,13 +6,7 @@ use Rattle.hk_replay.specs.declared.words.Job.{Job}
 use Rattle.hk_replay.specs.declared.words.Job.TheVariants.{Encode, Check, Trim, Generate}
 use Rattle.hk_replay.specs.declared.words.RecordCommand.{RecordCommand}
 use Rattle.hk_replay.specs.declared.words.RecordCommand.TheVariants.{Replay, Follow, Show}
-use Rattle.hk_replay.specs.declared.words.TailoringName.{TailoringName}
-use Rattle.hk_replay.specs.declared.words.TailoringName.TheVariants.{Builtin, File}
-
--- what a word stands for where a tailoring is named
-abbrev pub named : TailoringName → words.TailoringName
-named Builtin = words.standard
-named (File name) = words.in_file name.now
+use Rattle.program_edge.specs.Names.{named}
 
 -- what is made of the inputs
 abbrev pub asked_job : Job → words.Command

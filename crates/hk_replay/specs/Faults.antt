@@ -1,19 +1,15 @@
 -- The number and the text of each status.
-use Rattle.std.specs.Prelude.{ℕ, List, [], ◌++◌, codes}
+use Rattle.std.specs.Prelude.{⊤, ℕ, List, [], ◌++◌, codes}
 use Rattle.std.specs.Fmt.{decimal}
-use Rattle.hk_tailoring.specs.Texts.{fault_text as tailoring_text}
-use Rattle.hk_tailoring.specs.declared.fault.TailoringFault.{TailoringFault}
-use Rattle.hk_tailoring.specs.declared.fault.TailoringFault.TheVariants.{Memory}
 use Rattle.session_record.specs.declared.entry.RecordFault.{RecordFault}
 use Rattle.session_record.specs.declared.entry.RecordFault.TheVariants as fault
-use Rattle.record_commands.specs.declared.input.InputFault.{InputFault}
-use Rattle.record_commands.specs.declared.input.InputFault.TheVariants as input
-use Rattle.record_commands.specs.declared.showing.ShowFault.{ShowFault}
-use Rattle.record_commands.specs.declared.showing.ShowFault.TheVariants as showing
+use Rattle.program_edge.specs.Faults.{IsOfTailoring}
+use Rattle.program_edge.specs.Texts.{format_text, line_text, tailoring_text}
+use Rattle.program_edge.specs.declared.fault.RunFault.{RunFault}
+use Rattle.program_edge.specs.declared.fault.RunFault.TheVariants as run
+use Rattle.followed_records.specs.Faults.{IsOfProblem}
 use Rattle.followed_records.specs.declared.fault.FollowingFault.{FollowingFault}
 use Rattle.followed_records.specs.declared.fault.FollowingFault.TheVariants as following
-use Rattle.record_commands.specs.declared.encoding.EncodeFault.{EncodeFault}
-use Rattle.record_commands.specs.declared.encoding.EncodeFault.TheVariants as encoding
 use Rattle.ground_history.specs.declared.answer.SentFault.{SentFault}
 use Rattle.ground_history.specs.declared.answer.SentFault.TheVariants as sent
 use Rattle.session_texts.specs.declared.problem.RecordProblem.{RecordProblem}
@@ -31,6 +27,15 @@ status_number ReadFault = 5
 status_number WriteFault = 6
 status_number NoMemory = 7
 status_number (Text line) = 8
+
+-- how a run ends by a cause that programs share
+abbrev pub status_of_run : RunFault → ReplayStatus
+status_of_run (run.Tailoring f) = Tailoring f
+status_of_run (run.Record f) = Record (Format f)
+status_of_run (run.Line line) = Text line
+status_of_run run.ReadFault = ReadFault
+status_of_run run.WriteFault = WriteFault
+status_of_run run.NoMemory = NoMemory
 
 -- how a run ends by a fault of reading the record: a failing shelf and want of memory have statuses of their own
 abbrev pub status_of_fault : RecordFault → ReplayStatus
@@ -51,43 +56,12 @@ status_of_entry (sent.Reused count) offset = Record (Entry (sent.Reused count) o
 status_of_entry sent.SessionFull offset = Record (Entry sent.SessionFull offset)
 status_of_entry (sent.WindowFull number) offset = Record (Entry (sent.WindowFull number) offset)
 
--- how a run ends by a fault of reading a whole input
-abbrev pub status_of_input : InputFault → ReplayStatus
-status_of_input input.ReadFault = ReadFault
-status_of_input input.Memory = NoMemory
-
--- how a run ends that showed the entries before a fault
-abbrev pub status_of_showing : ShowFault → ReplayStatus
-status_of_showing (showing.Record f) = status_of_fault f
-status_of_showing showing.WriteFault = WriteFault
-
 -- how a run ends that followed the entries before a fault
 abbrev pub status_of_following : FollowingFault → ReplayStatus
 status_of_following (following.Record problem) = Record problem
 status_of_following following.ReadFault = ReadFault
 status_of_following following.WriteFault = WriteFault
 status_of_following following.Memory = NoMemory
-
--- how a run ends that made no record of lines
-abbrev pub status_of_encoding : EncodeFault → ReplayStatus
-status_of_encoding (encoding.Line line) = Text line
-status_of_encoding encoding.ReadFault = ReadFault
-status_of_encoding encoding.Memory = NoMemory
-
--- how a run ends by a fault of its tailoring: want of memory has a status of its own
-abbrev pub status_of_tailoring : TailoringFault → ReplayStatus
-status_of_tailoring Memory = NoMemory
-status_of_tailoring fault = Tailoring fault
-
--- the text of a fault of the format
-abbrev pub format_text : RecordFault → List ℕ
-format_text fault.BadMagic = codes "record: bad magic"
-format_text (fault.BadKind octet offset) = codes "record: bad kind " ++ (decimal octet ++ (codes " at " ++ decimal offset))
-format_text (fault.Cut offset) = codes "record: cut at " ++ decimal offset
-format_text (fault.TooLong offset) = codes "record: too long at " ++ decimal offset
-format_text (fault.TooManyEntries offset) = codes "record: too many entries at " ++ decimal offset
-format_text fault.ReadFault = codes "read fault"
-format_text fault.Memory = codes "no memory"
 
 -- the text of a request that can't stand in the entry at an offset: of two counts, the one that was found comes first
 abbrev pub entry_text : SentFault → ℕ → List ℕ
@@ -108,9 +82,15 @@ problem_text (Entry f offset) = entry_text f offset
 abbrev pub fault_text : ReplayStatus → List ℕ
 fault_text Done = []
 fault_text Usage = codes "usage"
-fault_text (Tailoring f) = codes "tailoring: " ++ tailoring_text f
+fault_text (Tailoring f) = tailoring_text f
 fault_text (Record problem) = problem_text problem
 fault_text ReadFault = codes "read fault"
 fault_text WriteFault = codes "write fault"
 fault_text NoMemory = codes "no memory"
-fault_text (Text line) = codes "line " ++ decimal line
+fault_text (Text line) = line_text line
+
+-- a failing shelf and want of memory never stand within another status
+abbrev pub IsPlain : ReplayStatus → Type 0
+IsPlain (Tailoring f) = IsOfTailoring f
+IsPlain (Record problem) = IsOfProblem problem
+IsPlain status = ⊤

@@ -1,56 +1,23 @@
 -- What the files of a run hold, and what is made of them.
-use Rattle.std.specs.Prelude.{◌≡◌, ◌⊎◌, ⊤, ℕ, true, false, List, [], ◌∷◌, ◌++◌, length, nat_lt, Option, Some, None, Result, Ok, Err, IfSome, IsSome, codes, if◌then◌else◌}
-use Rattle.std.specs.Option.{option_and_then, option_map}
+use Rattle.std.specs.Prelude.{◌≡◌, ◌⊎◌, ⊤, ℕ, ◌+◌, List, [], ◌∷◌, ◌++◌, length, Option, Some, None, Result, Ok, Err, IfSome, IsSome, codes}
+use Rattle.std.specs.Option.{option_map}
 use Rattle.std.specs.Fmt.{decimal}
-use Rattle.hk_base.specs.Outside.{file_of}
 use Rattle.hk_base.specs.TailoringParts.{TailoringParts}
 use Rattle.hk_base.specs.Builtin.{builtin}
-use Rattle.hk_tailoring.specs.Files.{file_fault, IsOf}
+use Rattle.hk_tailoring.specs.Files.{IsOf}
 use Rattle.hk_tailoring.specs.declared.fault.TailoringFault.{TailoringFault}
-use Rattle.hk_tailoring.specs.declared.fault.TailoringFault.TheVariants.{TooLong}
-use Rattle.record_commands.specs.Input.{IsEndOf}
+use Rattle.program_edge.specs.Inputs.{piece_octets, TakesAtMost}
+use Rattle.program_edge.specs.Names.{TailoringName, standard, in_file}
+use Rattle.program_edge.specs.Tailorings.{octets_of, HasReadFile, HasReadTailoring, IsAbsent, IsAbsentFile, MovesIn, StandsFor}
+use Rattle.record_commands.specs.Encoding.{most_lines_octets}
 use Rattle.record_commands.specs.Showing.{IsShownAsGiven}
+use Rattle.record_commands.specs.Trimming.{HasReadWhole}
 use Rattle.followed_records.specs.Told.{told}
 use Rattle.followed_records.specs.Following.{IsFollowedAsGiven}
-use Rattle.hk_replay.specs.Words.{TailoringName, standard, in_file, RecordCommand, replay, follow, show, Command, on_record, encode, check, trim, generate}
+use Rattle.hk_replay.specs.Words.{RecordCommand, replay, follow, show, Command, on_record, encode, check, trim, generate}
 use Rattle.hk_replay.specs.Outcomes.{Outcome, written, stopped, record_outcome, encode_outcome, trim_outcome, generate_outcome}
-use Rattle.hk_replay.specs.Replay.{EndsWith}
 use Rattle.hk_replay.specs.declared.status.ReplayStatus.{ReplayStatus}
-use Rattle.hk_replay.specs.declared.status.ReplayStatus.TheVariants.{Tailoring}
-
--- the most octets of a tailoring file
-abbrev pub most_file_octets : ℕ
-most_file_octets = 1048576
-
--- the octets of a name, where the shelf tells its files and has the name
-abbrev pub octets_of : Option (List (List ℕ × List ℕ)) → List ℕ → Option (List ℕ)
-octets_of files name = option_and_then (λ all. file_of all name) files
-
--- the fault of a tailoring file, if it has one: it is too long, or else the first fault of its document
-abbrev pub fault_of_file : List ℕ → Option TailoringFault
-fault_of_file octets = if nat_lt most_file_octets (length octets) then Some TooLong else file_fault octets
-
--- what a tailoring file means: the tailoring that it states, if it has no fault, or else the fault
-abbrev pub IsMeaning : List ℕ → Result TailoringParts TailoringFault → Type 0
-IsMeaning octets (Ok t) = (fault_of_file octets ≡ None) × IsOf octets t
-IsMeaning octets (Err fault) = fault_of_file octets ≡ Some fault
-
--- what the name of a tailoring means: the built-in one, or what the file that the shelf has of this name means
-abbrev pub StandsFor : Option (List (List ℕ × List ℕ)) → TailoringName → Result TailoringParts TailoringFault → Type 0
-StandsFor files standard meant = meant ≡ Ok builtin
-StandsFor files (in_file name) meant = IfSome (octets_of files name) (λ octets. IsMeaning octets meant) × IsSome (octets_of files name)
-
--- what was read is what was meant, or the run ends by its fault
-abbrev pub IsMeant : Result TailoringParts ReplayStatus → Result TailoringParts TailoringFault → Type 0
-IsMeant (Ok t) meant = meant ≡ Ok t
-IsMeant (Err status) (Ok t) = EndsWith status (written [])
-IsMeant (Err status) (Err fault) = EndsWith status (stopped (Tailoring fault))
-
--- the octets of a file came whole, or it is found too long, or the run ends for another cause
-abbrev pub IsWhole : List ℕ → Result (Option (List ℕ)) ReplayStatus → Type 0
-IsWhole octets (Ok (Some found)) = (found ≡ octets) × (nat_lt most_file_octets (length octets) ≡ false)
-IsWhole octets (Ok None) = nat_lt most_file_octets (length octets) ≡ true
-IsWhole octets (Err status) = EndsWith status (written [])
+use Rattle.hk_replay.specs.declared.status.ReplayStatus.TheVariants.{Done, Tailoring, ReadFault, NoMemory}
 
 -- the line that `check` writes
 abbrev pub check_text : TailoringParts → List ℕ
@@ -103,11 +70,6 @@ abbrev pub NamesRecord : Option (List (List ℕ × List ℕ)) → Option Command
 NamesRecord files (Some (on_record command tailoring name)) t octets = StandsFor files tailoring (Ok t) × (octets_of files name ≡ Some octets)
 NamesRecord files command t octets = ⊥
 
--- the shelf stands where it stood at the start, or else in the file of the tailoring
-abbrev pub IsBeforeRecord : Option (List (List ℕ × List ℕ)) → TailoringName → Option (List ℕ) → Option (List ℕ) → Type 0
-IsBeforeRecord files standard before now = now ≡ before
-IsBeforeRecord files (in_file name) before now = (now ≡ before) ⊎ IsEndOf (octets_of files name) now
-
 -- What was written before the shelf failed, where it had given a part of the record: nothing, or what is written of every entry whose octets it gave in full, and nothing of what is written at the end.
 abbrev pub HasGiven : RecordCommand → TailoringParts → List ℕ → Option (List ℕ) → Option (List ℕ) → Option (List ℕ) → Type 0
 HasGiven replay t octets left before after = after ≡ before
@@ -121,9 +83,73 @@ HasGivenFrom command t octets start left before after = ((left ≡ start) × (af
 -- the same where the tailoring was to be read before that
 abbrev pub HasGivenUnder : RecordCommand → Option (List (List ℕ × List ℕ)) → TailoringName → TailoringParts → List ℕ → Option (List ℕ) → Option (List ℕ) → Option (List ℕ) → Option (List ℕ) → Type 0
 HasGivenUnder command files tailoring t octets start left before after =
-    (IsBeforeRecord files tailoring start left × (after ≡ before)) ⊎ HasGiven command t octets left before after
+    (MovesIn files tailoring start left × (after ≡ before)) ⊎ HasGiven command t octets left before after
 
 -- the same of words that name a record
 abbrev pub HasGivenOf : Option (List (List ℕ × List ℕ)) → Option Command → TailoringParts → List ℕ → Option (List ℕ) → Option (List ℕ) → Option (List ℕ) → Option (List ℕ) → Type 0
 HasGivenOf files (Some (on_record command tailoring name)) t octets start left before after = HasGivenUnder command files tailoring t octets start left before after
 HasGivenOf files command t octets start left before after = ⊤
+
+-- Where the shelf tells its files: what was selected last was read to its end, and of a record that is trimmed to its end or a cut.
+abbrev pub HasReadAll : Option (List (List ℕ × List ℕ)) → Command → Option (List ℕ) → Type 0
+HasReadAll files (on_record command tailoring name) left = HasReadFile files left
+HasReadAll files (encode tailoring name) left = HasReadFile files left
+HasReadAll files (check tailoring) left = HasReadTailoring tailoring files left
+HasReadAll files (trim name) left = HasReadWhole (octets_of files name) left
+HasReadAll files (generate seed rounds) left = ⊤
+
+-- the same of words
+abbrev pub HasReadAllOf : Option (List (List ℕ × List ℕ)) → Option Command → Option (List ℕ) → Type 0
+HasReadAllOf files None left = ⊥
+HasReadAllOf files (Some command) left = HasReadAll files command left
+
+-- how many octets of a file of lines are taken at most: those that it may have, and a piece
+abbrev pub most_taken_of_lines : ℕ
+most_taken_of_lines = most_lines_octets + piece_octets
+
+-- the shelf stands where it stood, or in the lines of this name, so many octets on at most
+abbrev pub MovesInLines : Option (List (List ℕ × List ℕ)) → List ℕ → Option (List ℕ) → Option (List ℕ) → Type 0
+MovesInLines files name before left = (left ≡ before) ⊎ TakesAtMost most_taken_of_lines (octets_of files name) left
+
+-- How far a run moves the shelf that reads no record: not at all, or in the file of its tailoring, or in its lines.
+abbrev pub MovesShelf : Option (List (List ℕ × List ℕ)) → Command → Option (List ℕ) → Option (List ℕ) → Type 0
+MovesShelf files (on_record command tailoring name) before left = ⊤
+MovesShelf files (encode tailoring name) before left = MovesIn files tailoring before left ⊎ TakesAtMost most_taken_of_lines (octets_of files name) left
+MovesShelf files (check tailoring) before left = MovesIn files tailoring before left
+MovesShelf files (trim name) before left = ⊤
+MovesShelf files (generate seed rounds) before left = left ≡ before
+
+-- the same of words
+abbrev pub MovesShelfOf : Option (List (List ℕ × List ℕ)) → Option Command → Option (List ℕ) → Option (List ℕ) → Type 0
+MovesShelfOf files None before left = left ≡ before
+MovesShelfOf files (Some command) before left = MovesShelf files command before left
+
+-- the shelf tells its files, and an input that is named isn't among them
+abbrev pub LacksInput : Option (List (List ℕ × List ℕ)) → Command → Type 0
+LacksInput files (on_record command tailoring name) = IsAbsent files tailoring ⊎ IsAbsentFile files name
+LacksInput files (encode tailoring name) = IsAbsent files tailoring ⊎ IsAbsentFile files name
+LacksInput files (check tailoring) = IsAbsent files tailoring
+LacksInput files (trim name) = IsAbsentFile files name
+LacksInput files (generate seed rounds) = ⊥
+
+-- the same of words
+abbrev pub LacksInputOf : Option (List (List ℕ × List ℕ)) → Option Command → Type 0
+LacksInputOf files None = ⊥
+LacksInputOf files (Some command) = LacksInput files command
+
+-- a fault of a tailoring that is there, which is the fault that it is told to have
+abbrev pub IsFaultUnder : Option (List (List ℕ × List ℕ)) → TailoringName → TailoringFault → Type 0
+IsFaultUnder files tailoring fault = (IsAbsent files tailoring → ⊥) × ((meant : Result TailoringParts TailoringFault) → StandsFor files tailoring meant → meant ≡ Err fault)
+
+-- a run ends without an input: it couldn't be selected, or memory ran out, or a tailoring that comes before it has a fault
+abbrev pub EndsWithoutInput : Option (List (List ℕ × List ℕ)) → Command → ReplayStatus → Type 0
+EndsWithoutInput files command ReadFault = ⊤
+EndsWithoutInput files command NoMemory = ⊤
+EndsWithoutInput files (on_record command tailoring name) (Tailoring fault) = IsFaultUnder files tailoring fault
+EndsWithoutInput files (encode tailoring name) (Tailoring fault) = IsFaultUnder files tailoring fault
+EndsWithoutInput files command status = ⊥
+
+-- the same of words
+abbrev pub EndsWithoutInputOf : Option (List (List ℕ × List ℕ)) → Option Command → ReplayStatus → Type 0
+EndsWithoutInputOf files None status = ⊥
+EndsWithoutInputOf files (Some command) status = EndsWithoutInput files command status

@@ -7,3 +7,5 @@ pub mod Asked
 pub mod Replay
 pub mod Inputs
 pub mod Truth
+pub mod Cut
+pub mod Runs

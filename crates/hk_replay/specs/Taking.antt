@@ -7,6 +7,7 @@ use Rattle.session_record.specs.declared.entry.RecordFault.{RecordFault}
 use Rattle.ground_history.specs.declared.answer.SentFault.{SentFault}
 use Rattle.session_texts.specs.declared.problem.RecordProblem.TheVariants as problem
 use Rattle.decommutator.specs.Standing.{Standing, with_entry, entry_answer, standing_text}
+use Rattle.program_edge.specs.Inputs.{IsReadOut}
 use Rattle.hk_replay.specs.Outcomes.{Outcome, written, stopped}
 use Rattle.hk_replay.specs.Replay.{EndsWith}
 use Rattle.hk_replay.specs.declared.status.ReplayStatus.{ReplayStatus}
@@ -50,3 +51,8 @@ Takes (Err status) offset e before after = (rest : Outcome) → EndsWith status 
 abbrev pub TakesRest : Result Unit ReplayStatus → Standing → Outcome → Type 0
 TakesRest (Ok done) after outcome = outcome ≡ written (standing_text after)
 TakesRest (Err status) after outcome = EndsWith status outcome
+
+-- behind a first entry the input was read to its end; where there was none, it had been
+abbrev pub IsReadOutAfter : Option (ℕ × Entry) → Option (List ℕ) → Option (List ℕ) → Type 0
+IsReadOutAfter None before now = now ≡ before
+IsReadOutAfter (Some x) before now = IsReadOut before now

@@ -1,17 +1,19 @@
 //! The session of a record: all of it is read, and then its text is written.
-ghost use Rattle.std.specs.Prelude.{◌≡◌, ◌+◌, ◌<◌, ◌≤◌, ◌^◌, length, IfSome, IsErrOf, IsSome};
+ghost use Rattle.std.specs.Prelude.{◌≡◌, ◌+◌, ◌<◌, ◌≤◌, ◌^◌, length, IfErr, IfSome, IsErrOf, IsSome, OnOk};
 ghost use Rattle.hk_base.specs.Outside.{HasRisen};
+ghost use Rattle.program_edge.specs.Inputs.{IsReadOut};
 ghost use Rattle.session_record.specs.Records.{held_octets, most_entries};
 ghost use Rattle.session_record.specs.Reading.{to_come};
 ghost use Rattle.decommutator.specs.Standing.{standing_text};
+ghost use Rattle.hk_replay.specs.Faults.{IsPlain};
 ghost use Rattle.hk_replay.specs.Outcomes.{outcome_text, written, replay_outcome};
 ghost use Rattle.hk_replay.specs.Replay.{HasOutput, IsOfReading, WritesNothingEarly};
-ghost use Rattle.hk_replay.specs.Taking.{first_outcome, rest_outcome, FitsNext, Takes, TakesRest};
+ghost use Rattle.hk_replay.specs.Taking.{first_outcome, rest_outcome, FitsNext, IsReadOutAfter, Takes, TakesRest};
 
 use crate::status::ReplayStatus;
 use decommutator::{Decommutator, entries_stand};
 use hk_base::{Shelf, Sink, Tailoring};
-use record_commands::PIECE_OCTETS;
+use program_edge::PIECE_OCTETS;
 use session_record::{Entry, RecordReader, WriteFault};
 use std::alloc::Global;
 
@@ -23,8 +25,10 @@ pub fn replayed<F: Shelf, K: Sink>(
     sink: &mut K,
 ) -> ReplayStatus
     ensures used { result ≡ ReplayStatus.Usage → ⊥ }
+    ensures plain { IsPlain result }
     ensures read_fault { result ≡ ReplayStatus.ReadFault → HasRisen (F.faults shelf.old) (F.faults shelf.new) }
     ensures write_fault { result ≡ ReplayStatus.WriteFault → HasRisen (K.faults sink.old) (K.faults sink.new) }
+    ensures end { result ≡ ReplayStatus.Done → IsReadOut (F.rest shelf.old) (F.rest shelf.new) }
     ensures nothing { WritesNothingEarly result (K.taken sink.old) (K.taken sink.new) }
     ensures output { IfSome (F.rest shelf.old) (λ octets. HasOutput result (replay_outcome tailoring.now octets) (K.taken sink.old) (K.taken sink.new)) }
     ensures sound { F.is_sound shelf.old → IsSome (F.rest shelf.old) → F.faults shelf.new ≡ F.faults shelf.old }
@@ -62,8 +66,10 @@ fn all_written<F: Shelf, K: Sink>(
 ) -> ReplayStatus
     requires { FitsNext first (session.old.standing.entries + reader.old.room) }
     ensures used { result ≡ ReplayStatus.Usage → ⊥ }
+    ensures plain { IsPlain result }
     ensures read_fault { result ≡ ReplayStatus.ReadFault → HasRisen (F.faults shelf.old) (F.faults shelf.new) }
     ensures write_fault { result ≡ ReplayStatus.WriteFault → HasRisen (K.faults sink.old) (K.faults sink.new) }
+    ensures end { result ≡ ReplayStatus.Done → IsReadOutAfter first (F.rest shelf.old) (F.rest shelf.new) }
     ensures nothing { WritesNothingEarly result (K.taken sink.old) (K.taken sink.new) }
     ensures output { IfSome (F.rest shelf.old) (λ octets. HasOutput result (first_outcome session.old.standing first (to_come reader.old octets)) (K.taken sink.old) (K.taken sink.new)) }
     ensures sound { F.is_sound shelf.old → IsSome (F.rest shelf.old) → F.faults shelf.new ≡ F.faults shelf.old }
@@ -78,6 +84,7 @@ fn all_written<F: Shelf, K: Sink>(
 /// Writes the text of a session.
 fn text_written<K: Sink>(session: &Decommutator, sink: &mut K) -> ReplayStatus
     ensures used { result ≡ ReplayStatus.Usage → ⊥ }
+    ensures plain { IsPlain result }
     ensures read_fault { result ≡ ReplayStatus.ReadFault → ⊥ }
     ensures write_fault { result ≡ ReplayStatus.WriteFault → HasRisen (K.faults sink.old) (K.faults sink.new) }
     ensures nothing { WritesNothingEarly result (K.taken sink.old) (K.taken sink.new) }
@@ -102,7 +109,9 @@ fn take_all<F: Shelf>(
     ensures outcome { IfSome (F.rest shelf.old) (λ octets. TakesRest result session.new.standing (first_outcome session.old.standing first (to_come reader.old octets))) }
     ensures failed { IsErrOf result ReplayStatus.ReadFault → HasRisen (F.faults shelf.old) (F.faults shelf.new) }
     ensures sound { F.is_sound shelf.old → IsSome (F.rest shelf.old) → F.faults shelf.new ≡ F.faults shelf.old }
+    ensures end { OnOk result (IsReadOutAfter first (F.rest shelf.old) (F.rest shelf.new)) }
     ensures early { IsOfReading result }
+    ensures plain { IfErr result IsPlain }
 {
     let Some((offset, entry)) = first else {
         return Ok(());
@@ -121,7 +130,9 @@ fn take_rest<F: Shelf>(
     ensures outcome { IfSome (F.rest shelf.old) (λ octets. TakesRest result session.new.standing (rest_outcome session.old.standing (to_come reader.old octets))) }
     ensures failed { IsErrOf result ReplayStatus.ReadFault → HasRisen (F.faults shelf.old) (F.faults shelf.new) }
     ensures sound { F.is_sound shelf.old → IsSome (F.rest shelf.old) → F.faults shelf.new ≡ F.faults shelf.old }
+    ensures end { OnOk result (IsReadOut (F.rest shelf.old) (F.rest shelf.new)) }
     ensures early { IsOfReading result }
+    ensures plain { IfErr result IsPlain }
 {
     while let Some((offset, entry)) = reader.next(shelf)? {
         take(session, offset, &entry)?;
@@ -136,6 +147,7 @@ fn take(session: &mut Decommutator, offset: u64, entry: &Entry) -> Result<(), Re
     ensures takes { Takes result offset entry.now session.old.standing session.new.standing }
     ensures failed { IsErrOf result ReplayStatus.ReadFault → ⊥ }
     ensures early { IsOfReading result }
+    ensures plain { IfErr result IsPlain }
 {
     match session.entry(entry) {
         Ok(()) => Ok(()),

@@ -1,15 +1,17 @@
 //! How a run ended.
-ghost use Rattle.std.specs.Prelude.{◌≡◌, ◌++◌, codes, IfOk};
-ghost use Rattle.hk_replay.specs.Faults.{entry_text, fault_text, format_text, problem_text, status_number, status_of_encoding, status_of_entry, status_of_fault, status_of_following, status_of_input, status_of_showing, status_of_tailoring};
-ghost use Rattle.hk_tailoring.specs.Texts.{fault_text as fault_of_tailoring};
-ghost use Rattle.hk_replay.specs.declared.status.ReplayStatus.TheVariants as status;
+ghost use Rattle.std.specs.Prelude.{◌≡◌, IfOk};
 ghost use Rattle.std.specs.String.{string_bytes};
+ghost use Rattle.hk_replay.specs.Faults.{entry_text, fault_text, problem_text, status_number, status_of_entry, status_of_fault, status_of_following, status_of_run};
+ghost use Rattle.hk_replay.specs.declared.status.ReplayStatus.TheVariants as status;
 
 use followed_records::FollowingFault;
 use ground_history::SentFault;
 use hk_base::{Items, Memory, Octets};
 use hk_tailoring::TailoringFault;
-use record_commands::{EncodeFault, InputFault, ShowFault};
+use program_edge::{
+    BAD_LINE, BAD_RECORD, BAD_TAILORING, DONE, NO_MEMORY, READ_FAULT, RunFault, USAGE, WRITE_FAULT,
+    format_text, line_text, plain_text, tailoring_text,
+};
 use session_record::RecordFault;
 use session_texts::RecordProblem;
 use std::alloc::{AllocError, Global};
@@ -45,24 +47,17 @@ impl From<Memory> for ReplayStatus {
     }
 }
 
-impl From<TailoringFault> for ReplayStatus {
-    ghost from_gives = { λ fault e. e ≡ status_of_tailoring fault };
+impl From<RunFault> for ReplayStatus {
+    ghost from_gives = { λ fault e. e ≡ status_of_run fault };
 
-    fn from(fault: TailoringFault) -> ReplayStatus {
+    fn from(fault: RunFault) -> ReplayStatus {
         match fault {
-            TailoringFault::Memory => ReplayStatus::NoMemory,
-            fault => ReplayStatus::Tailoring(fault),
-        }
-    }
-}
-
-impl From<InputFault> for ReplayStatus {
-    ghost from_gives = { λ fault e. e ≡ status_of_input fault };
-
-    fn from(fault: InputFault) -> ReplayStatus {
-        match fault {
-            InputFault::ReadFault => ReplayStatus::ReadFault,
-            InputFault::Memory => ReplayStatus::NoMemory,
+            RunFault::Tailoring(fault) => ReplayStatus::Tailoring(fault),
+            RunFault::Record(fault) => ReplayStatus::Record(RecordProblem::Format(fault)),
+            RunFault::Line(line) => ReplayStatus::Text(line),
+            RunFault::ReadFault => ReplayStatus::ReadFault,
+            RunFault::WriteFault => ReplayStatus::WriteFault,
+            RunFault::NoMemory => ReplayStatus::NoMemory,
         }
     }
 }
@@ -87,17 +82,6 @@ impl From<RecordFault> for ReplayStatus {
     }
 }
 
-impl From<ShowFault> for ReplayStatus {
-    ghost from_gives = { λ fault e. e ≡ status_of_showing fault };
-
-    fn from(fault: ShowFault) -> ReplayStatus {
-        match fault {
-            ShowFault::Record(fault) => fault.into(),
-            ShowFault::WriteFault => ReplayStatus::WriteFault,
-        }
-    }
-}
-
 impl From<FollowingFault> for ReplayStatus {
     ghost from_gives = { λ fault e. e ≡ status_of_following fault };
 
@@ -107,18 +91,6 @@ impl From<FollowingFault> for ReplayStatus {
             FollowingFault::ReadFault => ReplayStatus::ReadFault,
             FollowingFault::WriteFault => ReplayStatus::WriteFault,
             FollowingFault::Memory => ReplayStatus::NoMemory,
-        }
-    }
-}
-
-impl From<EncodeFault> for ReplayStatus {
-    ghost from_gives = { λ fault e. e ≡ status_of_encoding fault };
-
-    fn from(fault: EncodeFault) -> ReplayStatus {
-        match fault {
-            EncodeFault::Line(line) => ReplayStatus::Text(line),
-            EncodeFault::ReadFault => ReplayStatus::ReadFault,
-            EncodeFault::Memory => ReplayStatus::NoMemory,
         }
     }
 }
@@ -139,14 +111,14 @@ impl ReplayStatus {
         ensures { result ≡ status_number self.now }
     {
         match self {
-            ReplayStatus::Done => 0,
-            ReplayStatus::Usage => 2,
-            ReplayStatus::Tailoring(_) => 3,
-            ReplayStatus::Record(_) => 4,
-            ReplayStatus::ReadFault => 5,
-            ReplayStatus::WriteFault => 6,
-            ReplayStatus::NoMemory => 7,
-            ReplayStatus::Text(_) => 8,
+            ReplayStatus::Done => DONE,
+            ReplayStatus::Usage => USAGE,
+            ReplayStatus::Tailoring(_) => BAD_TAILORING,
+            ReplayStatus::Record(_) => BAD_RECORD,
+            ReplayStatus::ReadFault => READ_FAULT,
+            ReplayStatus::WriteFault => WRITE_FAULT,
+            ReplayStatus::NoMemory => NO_MEMORY,
+            ReplayStatus::Text(_) => BAD_LINE,
         }
     }
 
@@ -154,36 +126,29 @@ impl ReplayStatus {
     pub fn fault_text(&self, alloc: Global) -> Result<Octets, Memory>
         ensures { IfOk result (λ text. text ≡ fault_text self.now) }
     {
-        let text = match self {
-            ReplayStatus::Done => String::new(alloc),
-            ReplayStatus::Usage => String::from_str(alloc, "usage")?,
-            ReplayStatus::Tailoring(fault) => return tailoring_text(alloc, fault),
-            ReplayStatus::Record(problem) => problem_text(alloc, *problem)?,
-            ReplayStatus::ReadFault => String::from_str(alloc, "read fault")?,
-            ReplayStatus::WriteFault => String::from_str(alloc, "write fault")?,
-            ReplayStatus::NoMemory => String::from_str(alloc, "no memory")?,
-            ReplayStatus::Text(line) => format!(in alloc; "line {line}")?,
-        };
-        Ok(Items::from_vec(text.into_bytes()))
+        match self {
+            ReplayStatus::Done => plain_text(alloc, ""),
+            ReplayStatus::Usage => plain_text(alloc, "usage"),
+            ReplayStatus::Tailoring(fault) => tailoring_text(alloc, fault),
+            ReplayStatus::Record(problem) => problem_text(alloc, *problem),
+            ReplayStatus::ReadFault => plain_text(alloc, "read fault"),
+            ReplayStatus::WriteFault => plain_text(alloc, "write fault"),
+            ReplayStatus::NoMemory => plain_text(alloc, "no memory"),
+            ReplayStatus::Text(line) => line_text(alloc, *line),
+        }
     }
 }
 
-/// The text of a fault of the tailoring.
-fn tailoring_text(alloc: Global, fault: &TailoringFault) -> Result<Octets, Memory>
-    ensures { IfOk result (λ text. text ≡ codes "tailoring: " ++ fault_of_tailoring fault.now) }
-{
-    let mut text = Vec::from_slice(alloc, b"tailoring: ")?;
-    text.extend_from_slice(fault.text(alloc)?.as_slice())?;
-    Ok(Items::from_vec(text))
-}
-
 /// The text of what is wrong with a record.
-fn problem_text(alloc: Global, problem: RecordProblem) -> Result<String, AllocError>
-    ensures { IfOk result (λ text. string_bytes text ≡ problem_text problem) }
+fn problem_text(alloc: Global, problem: RecordProblem) -> Result<Octets, Memory>
+    ensures { IfOk result (λ text. text ≡ problem_text problem) }
 {
     match problem {
         RecordProblem::Format(fault) => format_text(alloc, fault),
-        RecordProblem::Entry(fault, offset) => entry_text(alloc, fault, offset),
+        RecordProblem::Entry(fault, offset) => {
+            let text = entry_text(alloc, fault, offset)?;
+            Ok(Items::from_vec(text.into_bytes()))
+        }
     }
 }
 
@@ -202,29 +167,6 @@ fn entry_text(alloc: Global, fault: SentFault, offset: u64) -> Result<String, Al
         SentFault::SessionFull => write!(text, "record: session full at {offset}")?,
         SentFault::WindowFull(_) => write!(text, "record: window full at {offset}")?,
         SentFault::Memory => write!(text, "no memory")?,
-    }
-    Ok(text)
-}
-
-/// The text of a fault of the format.
-fn format_text(alloc: Global, fault: RecordFault) -> Result<String, AllocError>
-    ensures { IfOk result (λ text. string_bytes text ≡ format_text fault) }
-{
-    let mut text = String::new(alloc);
-    match fault {
-        RecordFault::BadMagic => write!(text, "record: bad magic")?,
-        RecordFault::BadKind(octet, offset) => write!(
-            text,
-            "record: bad kind {octet} at {offset}"
-        )?,
-        RecordFault::Cut(offset) => write!(text, "record: cut at {offset}")?,
-        RecordFault::TooLong(offset) => write!(text, "record: too long at {offset}")?,
-        RecordFault::TooManyEntries(offset) => write!(
-            text,
-            "record: too many entries at {offset}"
-        )?,
-        RecordFault::ReadFault => write!(text, "read fault")?,
-        RecordFault::Memory => write!(text, "no memory")?,
     }
     Ok(text)
 }

@@ -50,6 +50,30 @@ const CHANGED: &[u8] =
 const COMPLETED: &[u8] =
     b"G\x00\x00\x00\x17\x08d\xc0\x00\x00\x10\x20\x01\x07\x00\x00\x00\x01\x00\x00\x00\x00p\x04\x18d\xc0\x00";
 
+/// A report of structure 1 with the tag of `REPORT` and another value.
+const CONFLICTING: &[u8] =
+    b"G\x00\x00\x00\x16\x08d\xc0\x00\x00\x0f\x20\x03\x19\x00\x00\x00\x01\x00\x00\x00\x00\x40\x01\x01\x00\x2b";
+
+/// A second request, which asks what housekeeping structure 2 is.
+const QUESTION: &[u8] = b"S\x00\x00\x00\x0d\x18d\xc0\x01\x00\x06/\x03\x09\x00\x01\x01\x02";
+
+/// A report with the tag 36866: the second request was begun.
+const BEGUN: &[u8] =
+    b"G\x00\x00\x00\x17\x08d\xc0\x00\x00\x10\x20\x01\x03\x00\x00\x00\x01\x00\x00\x00\x00\x90\x02\x18d\xc0\x01";
+
+/// Its answer, with the tag 36868: the interval is 4.
+const ANSWER: &[u8] =
+    b"G\x00\x00\x00\x1f\x08d\xc0\x00\x00\x18\x20\x03\x0a\x00\x00\x00\x01\x00\x00\x00\x00\x90\x04\x02\x01\x00\x04\x01\x00\x01\x01\x04\x01\x00\x03";
+
+/// A report of that structure, with the tag 65538.
+const AFTERWARDS: &[u8] =
+    b"G\x00\x00\x00\x1a\x08d\xc0\x00\x00\x13\x20\x03\x19\x00\x00\x00\x01\x00\x00\x00\x01\x00\x02\x02\x00\x02\x14\x15\x16\x17";
+
+/// What is replayed of the change, its report, the question and its answer, and the report afterwards.
+const ANSWERED_TEXT: &str =
+    "report hk 2 tag 32770 undecidable 0\nreport hk 2 tag 65538 decided interval 4\nvalue 1 slot 15 = 2\n\
+    value 3 slot 12 = 20\nvalue 3 slot 13 = 21\nvalue 3 slot 14 = 22\nvalue 3 slot 15 = 23\n";
+
 /// The words of the command on the record of `shelf_of`.
 const REPLAY: &[&str] = &["replay", "builtin", "record"];
 
@@ -128,8 +152,10 @@ fn records_that_are_replayed(rt: HostRuntime) -> Result<(), Fail> {
         report hk 1 tag 32769 decided interval 4\nvalue 1 slot 7 = 7\n";
     let statistics = "statistics tag 8200 from 0 to 8200\n\
         stat 2 count 2 max -3 at 0 min -4 at 4096 mean -4 scale 1\n";
-    let table: [(&[&[u8]], &str); 4] = [
+    let conflicts = "report hk 1 tag 16385 decided interval 4\nvalue 1 slot 3 = 43\nconflicts 3\n";
+    let table: [(&[&[u8]], &str); 5] = [
         (&[KNOWN], ""),
+        (&[KNOWN, CONFLICTING, REPORT, REPORT, REPORT], conflicts),
         (&[KNOWN, REPORT], REPORT_TEXT),
         (&[UNKNOWN, REPORT, STRUCTURE, LATER], unopened),
         (&[KNOWN, STATISTICS], statistics),
@@ -259,11 +285,12 @@ fn statuses_and_their_texts(rt: HostRuntime) -> Result<(), Fail> {
 #[test]
 fn reads_fail(rt: HostRuntime) -> Result<(), Fail> {
     let alloc = rt.alloc();
-    for call in 1..=20u32 {
-        let shelf = shelf_of(alloc, &[KNOWN, REPORT, LATER], &[call], 7)?;
+    let parts: &[&[u8]] = &[KNOWN, CHANGE, CHANGED, QUESTION, BEGUN, ANSWER, AFTERWARDS];
+    for call in 1..=40u32 {
+        let shelf = shelf_of(alloc, parts, &[call], 7)?;
         let (status, sink) = run(alloc, REPLAY, shelf, sink_of(alloc, &[], 1000)?)?;
         if status.number() == 0 {
-            assert!(rt; call > 10);
+            assert!(rt; call > 25 && sink.taken() == ANSWERED_TEXT.as_bytes());
             return Ok(());
         }
         assert_eq!(rt; status.number(), 5);

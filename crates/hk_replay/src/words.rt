@@ -1,22 +1,14 @@
 //! The words of the command line.
-ghost use Rattle.std.specs.Prelude.{◌≡◌, ◌≤◌, map, IfSome};
+ghost use Rattle.std.specs.Prelude.{◌≡◌, map};
 ghost use Rattle.std.specs.Option.{option_map};
 ghost use Rattle.std.specs.String.{string_bytes};
-ghost use Rattle.std.specs.List.{list_all};
-ghost use Rattle.hk_replay.specs.Words.{command_of, command_of_two, command_with, generate_with, has_leading_zero, is_decimal, is_digit, number_within, tailoring_named as meaning_of};
-ghost use Rattle.hk_replay.specs.Asked.{asked, named};
+ghost use Rattle.program_edge.specs.Decimals.{number_within};
+ghost use Rattle.program_edge.specs.Names.{named};
+ghost use Rattle.hk_replay.specs.Words.{command_of, command_of_two, command_with, generate_with};
+ghost use Rattle.hk_replay.specs.Asked.{asked};
 
 use crate::rounds::Rounds;
-use message_words::wide_number_in;
-
-/// What a word stands for where a tailoring is named.
-#[derive(Clone, Copy)]
-pub enum TailoringName<'a> {
-    /// The built-in tailoring.
-    Builtin,
-    /// That of the file of this name.
-    File(&'a str),
-}
+use program_edge::{TailoringName, decimal_within, tailoring_named};
 
 /// What a run is asked to do.
 #[derive(Clone, Copy)]
@@ -94,65 +86,11 @@ fn command_under<'a>(form: &str, tailoring: TailoringName<'a>, name: &'a str) ->
     }
 }
 
-/// What a word stands for where a tailoring is named: `builtin` is the built-in one.
-fn tailoring_named(word: &str) -> TailoringName<'_>
-    ensures { named result ≡ meaning_of word.now }
-{
-    if word == "builtin" {
-        TailoringName::Builtin
-    } else {
-        TailoringName::File(word)
-    }
-}
-
 /// The command of a seed and a number of rounds.
 fn generation<'a>(seed: &str, rounds: &str) -> Option<Command<'a>>
     ensures { option_map asked result ≡ generate_with (number_within 0 4294967295 seed.now) (number_within 1 100000 rounds.now) }
 {
-    let seed = number_in_range(0, u32::MAX, seed)?;
-    let count = number_in_range(1, 100_000, rounds)?;
+    let seed = decimal_within(0, u64::from(u32::MAX), seed)? as u32;
+    let count = decimal_within(1, 100_000, rounds)? as u32;
     Some(Command::Make(Job::Generate(seed, Rounds { count })))
-}
-
-/// The number that a word is, if it is decimal digits without sign or leading zero, and within these bounds.
-fn number_in_range(least: u32, most: u32, word: &str) -> Option<u32>
-    ensures value { result ≡ number_within least most word.now }
-    ensures few { IfSome result (λ number. number ≤ most) }
-{
-    let number = wide_number_in(word);
-    let is_within = u64::from(least) <= number && number <= u64::from(most);
-    if is_decimal(word.as_bytes()) && is_within {
-        return Some(number as u32);
-    }
-    None
-}
-
-/// Whether octets are decimal digits without a sign, and without a zero in front of others.
-fn is_decimal(word: &[u8]) -> bool
-    ensures { result ≡ is_decimal word.now }
-{
-    !word.is_empty() && !has_leading_zero(word) && are_digits(word)
-}
-
-/// Whether a zero stands in front of others.
-fn has_leading_zero(word: &[u8]) -> bool
-    ensures { result ≡ has_leading_zero word.now }
-{
-    match word {
-        [first, _, ..] => *first == b'0',
-        _ => false,
-    }
-}
-
-/// Whether all are decimal digits.
-fn are_digits(word: &[u8]) -> bool
-    ensures { result ≡ list_all is_digit word.now }
-{
-    word.iter().all(|octet| is_digit(*octet))
-}
-
-fn is_digit(octet: u8) -> bool
-    ensures { result ≡ is_digit octet }
-{
-    octet >= 48 && octet <= 57
 }

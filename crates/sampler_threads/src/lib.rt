@@ -12,6 +12,8 @@ mod orders;
 mod rings;
 mod slot;
 mod steps;
+#[cfg(test)]
+mod tests;
 
 pub use crew::samplers_of;
 pub use end::SamplerEnd;

@@ -6,7 +6,9 @@ use Rattle.decommutator.specs.Standing.{new_standing}
 use Rattle.hk_replay.specs.Outcomes.{outcome_text, replay_outcome}
 use Rattle.hk_replay.specs.Replay.{HasOutput}
 use Rattle.hk_replay.specs.declared.status.ReplayStatus.{ReplayStatus}
+use Rattle.hk_replay.specs.Faults.{IsPlain}
 use Rattle.hk_replay.proofs.SessionLemmas.{Stands}
+use Rattle.hk_replay.proofs.StatusLemmas.{first_read, plain_fault, undone_fault}
 use Rattle.hk_replay.proofs.TakingLemmas.{of_first, start_output, still_told}
 use Rattle.hk_replay.proofs.session.replayed.Goals as goal
 
@@ -54,3 +56,14 @@ returns-clause-room g c =
     t c.new-session.result.standing c.next.new.self was rest c.in-Ok-next.first c.in-Some.known c.in-Some-long_session.long
     (c.new-session.ensures.standing ∙ ap (λ (x : TailoringParts). new_standing x c.in-Some.known c.in-Some-long_session.long) c.in-Ok-copy.ensures)
     answer c.in-Some.ensures c.in-Some-long_session.ensures c.all_written.ensures.room
+
+pub returns-in-Err-clause-plain : goal.returns-in-Err-clause-plain
+returns-in-Err-clause-plain g c = subst IsPlain (sym c.into.ensures) (plain_fault c.in-Err.fault)
+
+pub returns-in-Err-clause-end : goal.returns-in-Err-clause-end
+returns-in-Err-clause-end g c = λ is. absurd (undone_fault c.in-Err.fault (sym c.into.ensures ∙ is))
+
+pub returns-clause-end : goal.returns-clause-end
+returns-clause-end g c = λ done.
+    first_read c.in-Ok-next.first c.in-Ok.reader c.next.new.self (g.F.Shelf.rest c.args.shelf.now) (g.F.Shelf.rest c.next.new.shelf) (g.F.Shelf.rest c.all_written.new.shelf)
+    c.in-Ok-next.ensures.answer c.in-Ok-next.ensures.header (c.all_written.ensures.end done)

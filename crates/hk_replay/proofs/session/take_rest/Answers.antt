@@ -1,0 +1,24 @@
+use Rattle.std.proofs.Common.{ℕ, Option, Some, None, Ok, subst}
+use Rattle.std.proofs.lemmas.Result.{err_from_is_err_and}
+use Rattle.session_record.specs.Reading.{Answers, HasHeader}
+use Rattle.session_record.specs.declared.entry.Entry.{Entry}
+use Rattle.program_edge.proofs.ReaderLemmas.{read_out_at_end, read_out_since}
+use Rattle.hk_replay.proofs.StatusLemmas.{plain_fault}
+use Rattle.hk_replay.proofs.TakingLemmas.{kept_told}
+use Rattle.hk_replay.proofs.session.take_rest.Goals as goal
+
+pub returns-in_err-offset-clause-plain : goal.returns-in_err-offset-clause-plain
+returns-in_err-offset-clause-plain g c =
+    let p = err_from_is_err_and c.from_residual.result c.from_residual.ensures.1 in
+    rw (p.1, p.2) (plain_fault c.in_err-offset.field-0.0)
+
+pub returns-clause-end : goal.returns-clause-end
+returns-clause-end g c =
+    let r = c.loop-offset.reader in
+    let s = c.next.new.self in
+    let was = g.F.Shelf.rest c.args.shelf.now in
+    let rest = g.F.Shelf.rest c.loop-offset.shelf in
+    let left = g.F.Shelf.rest c.next.new.shelf in
+    let answer = subst (λ (o : Option (ℕ × Entry)). Answers (Ok o) r rest s left) c.in_default.is c.in_ok-offset.ensures.answer in
+    let header = subst (λ (o : Option (ℕ × Entry)). HasHeader (Ok o) s.header) c.in_default.is c.in_ok-offset.ensures.header in
+    read_out_since was rest left (kept_told c.args.session.now.standing c.args.reader.now was c.loop-offset.session.standing r rest c.loop-offset.invariant.outcome) (read_out_at_end r s rest left answer header)

@@ -1,6 +1,7 @@
 //! Entries, each followed before the next one is read.
 ghost use Rattle.std.specs.Prelude.{◌≡◌, ◌≤◌, ◌<◌, ◌+◌, ◌^◌, length, IfOk, OnOk, IfSome, IsSome, IsErrOf};
 ghost use Rattle.hk_base.specs.Outside.{HasRisen};
+ghost use Rattle.program_edge.specs.Bounds.{GoesWithin};
 ghost use Rattle.program_edge.specs.Inputs.{IsReadOut};
 ghost use Rattle.followed_records.specs.Faults.{IsOfFollowing};
 ghost use Rattle.session_record.specs.Records.{held_octets, most_entries};
@@ -24,6 +25,7 @@ pub(crate) fn follow_rest<F: Shelf, K: Sink>(
     ensures followed { IfSome (F.rest shelf.old) (λ octets.
         FollowsAll result (told_ahead start reader.old) octets (F.rest shelf.new) (K.taken sink.old) (K.taken sink.new)) }
     ensures end { OnOk result (IsReadOut (F.rest shelf.old) (F.rest shelf.new)) }
+    ensures bounded { GoesWithin reader.old (F.rest shelf.old) reader.new (F.rest shelf.new) }
     ensures waiting { IfOk result (λ later. IsSome later.waiting) }
     ensures causes { IsOfFollowing result }
     ensures read_fault { IsErrOf result FollowingFault.ReadFault → HasRisen (F.faults shelf.old) (F.faults shelf.new) }

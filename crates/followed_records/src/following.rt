@@ -1,7 +1,8 @@
 //! A record that is followed from its first octet on.
 ghost use Rattle.std.specs.Prelude.{◌≡◌, ◌≤◌, ◌<◌, ◌+◌, ◌^◌, length, IfOk, OnOk, IfSome, IsSome, IsErrOf};
 ghost use Rattle.hk_base.specs.Outside.{HasRisen};
-ghost use Rattle.program_edge.specs.Inputs.{IsReadOut};
+ghost use Rattle.program_edge.specs.Bounds.{GoesWithin, most_taken_of_record};
+ghost use Rattle.program_edge.specs.Inputs.{IsReadOut, TakesAtMost};
 ghost use Rattle.followed_records.specs.Faults.{IsOfFollowing};
 ghost use Rattle.session_record.specs.Records.{held_octets, most_entries};
 ghost use Rattle.followed_records.specs.Told.{told};
@@ -26,6 +27,7 @@ pub fn follow_record<F: Shelf, K: Sink>(
     ensures followed { IfSome (F.rest shelf.old) (λ octets.
         Follows result (told tailoring.now) octets (F.rest shelf.new) (K.taken sink.old) (K.taken sink.new)) }
     ensures end { OnOk result (IsReadOut (F.rest shelf.old) (F.rest shelf.new)) }
+    ensures bounded { TakesAtMost most_taken_of_record (F.rest shelf.old) (F.rest shelf.new) }
     ensures causes { IsOfFollowing result }
     ensures read_fault { IsErrOf result FollowingFault.ReadFault → HasRisen (F.faults shelf.old) (F.faults shelf.new) }
     ensures count { SinkCounts result (K.faults sink.old) (K.faults sink.new) }
@@ -58,6 +60,7 @@ fn follow_from<F: Shelf, K: Sink>(
     ensures followed { IfSome (F.rest shelf.old) (λ octets.
         Follows result (told_from session offset entry.now reader.old) octets (F.rest shelf.new) (K.taken sink.old) (K.taken sink.new)) }
     ensures end { OnOk result (IsReadOut (F.rest shelf.old) (F.rest shelf.new)) }
+    ensures bounded { GoesWithin reader.old (F.rest shelf.old) reader.new (F.rest shelf.new) }
     ensures causes { IsOfFollowing result }
     ensures read_fault { IsErrOf result FollowingFault.ReadFault → HasRisen (F.faults shelf.old) (F.faults shelf.new) }
     ensures count { SinkCounts result (K.faults sink.old) (K.faults sink.new) }

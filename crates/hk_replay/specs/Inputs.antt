@@ -6,6 +6,7 @@ use Rattle.hk_base.specs.TailoringParts.{TailoringParts}
 use Rattle.hk_base.specs.Builtin.{builtin}
 use Rattle.hk_tailoring.specs.Files.{IsOf}
 use Rattle.hk_tailoring.specs.declared.fault.TailoringFault.{TailoringFault}
+use Rattle.program_edge.specs.Bounds.{most_taken_of_record}
 use Rattle.program_edge.specs.Inputs.{piece_octets, TakesAtMost}
 use Rattle.program_edge.specs.Names.{TailoringName, standard, in_file}
 use Rattle.program_edge.specs.Tailorings.{octets_of, HasReadFile, HasReadTailoring, IsAbsent, IsAbsentFile, MovesIn, StandsFor}
@@ -107,16 +108,20 @@ HasReadAllOf files (Some command) left = HasReadAll files command left
 abbrev pub most_taken_of_lines : ℕ
 most_taken_of_lines = most_lines_octets + piece_octets
 
--- the shelf stands where it stood, or in the lines of this name, so many octets on at most
-abbrev pub MovesInLines : Option (List (List ℕ × List ℕ)) → List ℕ → Option (List ℕ) → Option (List ℕ) → Type 0
-MovesInLines files name before left = (left ≡ before) ⊎ TakesAtMost most_taken_of_lines (octets_of files name) left
+-- the shelf stands where it stood, or in the input of this name, so many octets on at most
+abbrev pub MovesInInput : ℕ → Option (List (List ℕ × List ℕ)) → List ℕ → Option (List ℕ) → Option (List ℕ) → Type 0
+MovesInInput most files name before left = (left ≡ before) ⊎ TakesAtMost most (octets_of files name) left
 
--- How far a run moves the shelf that reads no record: not at all, or in the file of its tailoring, or in its lines.
+-- the same where a tailoring is read before that
+abbrev pub MovesUnder : ℕ → Option (List (List ℕ × List ℕ)) → TailoringName → List ℕ → Option (List ℕ) → Option (List ℕ) → Type 0
+MovesUnder most files tailoring name before left = MovesIn files tailoring before left ⊎ TakesAtMost most (octets_of files name) left
+
+-- How far a run moves the shelf: not at all, or in the file of its tailoring, or in its record or its lines.
 abbrev pub MovesShelf : Option (List (List ℕ × List ℕ)) → Command → Option (List ℕ) → Option (List ℕ) → Type 0
-MovesShelf files (on_record command tailoring name) before left = ⊤
-MovesShelf files (encode tailoring name) before left = MovesIn files tailoring before left ⊎ TakesAtMost most_taken_of_lines (octets_of files name) left
+MovesShelf files (on_record command tailoring name) before left = MovesUnder most_taken_of_record files tailoring name before left
+MovesShelf files (encode tailoring name) before left = MovesUnder most_taken_of_lines files tailoring name before left
 MovesShelf files (check tailoring) before left = MovesIn files tailoring before left
-MovesShelf files (trim name) before left = ⊤
+MovesShelf files (trim name) before left = MovesInInput most_taken_of_record files name before left
 MovesShelf files (generate seed rounds) before left = left ≡ before
 
 -- the same of words

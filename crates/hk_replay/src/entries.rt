@@ -1,7 +1,8 @@
 //! Records of which each entry is written before the next one is read.
 ghost use Rattle.std.specs.Prelude.{◌≡◌, ◌≤◌, length, IfSome, IsSome};
 ghost use Rattle.hk_base.specs.Outside.{HasRisen};
-ghost use Rattle.program_edge.specs.Inputs.{IsReadOut};
+ghost use Rattle.program_edge.specs.Bounds.{most_taken_of_record};
+ghost use Rattle.program_edge.specs.Inputs.{IsReadOut, TakesAtMost};
 ghost use Rattle.record_commands.specs.Showing.{IsShownAsGiven};
 ghost use Rattle.followed_records.specs.Told.{told};
 ghost use Rattle.followed_records.specs.Following.{IsFollowedAsGiven};
@@ -27,6 +28,7 @@ pub fn followed<F: Shelf, K: Sink>(
     ensures read_fault { result ≡ ReplayStatus.ReadFault → HasRisen (F.faults shelf.old) (F.faults shelf.new) }
     ensures write_fault { result ≡ ReplayStatus.WriteFault → HasRisen (K.faults sink.old) (K.faults sink.new) }
     ensures end { result ≡ ReplayStatus.Done → IsReadOut (F.rest shelf.old) (F.rest shelf.new) }
+    ensures bounds { TakesAtMost most_taken_of_record (F.rest shelf.old) (F.rest shelf.new) }
     ensures nothing { WritesNothingElse result (K.taken sink.old) (K.taken sink.new) }
     ensures output { IfSome (F.rest shelf.old) (λ octets. HasOutput result (follow_outcome tailoring.now octets) (K.taken sink.old) (K.taken sink.new)) }
     ensures given { IfSome (F.rest shelf.old) (λ octets. result ≡ ReplayStatus.ReadFault → IsFollowedAsGiven (told tailoring.now) octets (F.rest shelf.new) (K.taken sink.old) (K.taken sink.new)) }
@@ -51,6 +53,7 @@ pub fn shown<F: Shelf, K: Sink>(
     ensures read_fault { result ≡ ReplayStatus.ReadFault → HasRisen (F.faults shelf.old) (F.faults shelf.new) }
     ensures write_fault { result ≡ ReplayStatus.WriteFault → HasRisen (K.faults sink.old) (K.faults sink.new) }
     ensures end { result ≡ ReplayStatus.Done → IsReadOut (F.rest shelf.old) (F.rest shelf.new) }
+    ensures bounds { TakesAtMost most_taken_of_record (F.rest shelf.old) (F.rest shelf.new) }
     ensures nothing { WritesNothingElse result (K.taken sink.old) (K.taken sink.new) }
     ensures output { IfSome (F.rest shelf.old) (λ octets. HasOutput result (show_outcome tailoring.now octets) (K.taken sink.old) (K.taken sink.new)) }
     ensures given { IfSome (F.rest shelf.old) (λ octets. result ≡ ReplayStatus.ReadFault → IsShownAsGiven tailoring.now octets (F.rest shelf.new) (K.taken sink.old) (K.taken sink.new)) }

@@ -3,7 +3,7 @@ ghost use Rattle.std.specs.Prelude.{◌≡◌, ◌≤◌, ◌⊎◌, Result, len
 ghost use Rattle.hk_base.specs.Outside.{HasRisen};
 ghost use Rattle.hk_base.specs.TailoringParts.{TailoringParts};
 ghost use Rattle.hk_tailoring.specs.declared.fault.TailoringFault.{TailoringFault};
-ghost use Rattle.program_edge.specs.Inputs.{TakesAtMost};
+ghost use Rattle.program_edge.specs.Bounds.{most_taken_of_record};
 ghost use Rattle.program_edge.specs.Names.{named};
 ghost use Rattle.program_edge.specs.Tailorings.{octets_of, HasReadFile, HasReadTailoring, IsAbsent, IsAbsentFile, MovesIn, StandsFor};
 ghost use Rattle.record_commands.specs.Trimming.{HasReadWhole};
@@ -12,7 +12,7 @@ ghost use Rattle.hk_replay.specs.Asked.{asked_job};
 ghost use Rattle.hk_replay.specs.Faults.{IsPlain};
 ghost use Rattle.hk_replay.specs.Outcomes.{Outcome, outcome_text, encode_outcome, trim_outcome};
 ghost use Rattle.hk_replay.specs.Replay.{HasOutput, WritesNothingEarly, ReadsTo, IsOfReading};
-ghost use Rattle.hk_replay.specs.Inputs.{told_under, check_outcome, Tells, HasReadAll, MovesInLines, MovesShelf, LacksInput, EndsWithoutInput, most_taken_of_lines};
+ghost use Rattle.hk_replay.specs.Inputs.{told_under, check_outcome, Tells, HasReadAll, MovesInInput, MovesShelf, MovesUnder, LacksInput, EndsWithoutInput, most_taken_of_lines};
 
 use crate::checking::check_line;
 use crate::generated::generated_text;
@@ -85,7 +85,7 @@ fn encoded_text<F: Shelf>(
     ensures early { IsOfReading result }
     ensures plain { IfErr result IsPlain }
     ensures end { OnOk result (HasReadFile (F.files shelf.old) (F.rest shelf.new)) }
-    ensures bounds { MovesIn (F.files shelf.old) (named tailoring.entry) (F.rest shelf.old) (F.rest shelf.new) ⊎ TakesAtMost most_taken_of_lines (octets_of (F.files shelf.old) name.now) (F.rest shelf.new) }
+    ensures bounds { MovesUnder most_taken_of_lines (F.files shelf.old) (named tailoring.entry) name.now (F.rest shelf.old) (F.rest shelf.new) }
     ensures absent { IsAbsent (F.files shelf.old) (named tailoring.entry) ⊎ IsAbsentFile (F.files shelf.old) name.now
         → IsErrAnd result (EndsWithoutInput (F.files shelf.old) (command.encode (named tailoring.entry) name.now)) }
 {
@@ -106,7 +106,7 @@ fn lines_text<F: Shelf>(
     ensures early { IsOfReading result }
     ensures plain { IfErr result IsPlain }
     ensures end { OnOk result (HasReadFile (F.files shelf.old) (F.rest shelf.new)) }
-    ensures bounds { MovesInLines (F.files shelf.old) name.now (F.rest shelf.old) (F.rest shelf.new) }
+    ensures bounds { MovesInInput most_taken_of_lines (F.files shelf.old) name.now (F.rest shelf.old) (F.rest shelf.new) }
     ensures absent { IsAbsentFile (F.files shelf.old) name.now → IsErrOf result ReplayStatus.ReadFault }
 {
     if shelf.select(name).is_err() {
@@ -144,6 +144,7 @@ fn trimmed_text<F: Shelf>(alloc: Global, name: &str, shelf: &mut F) -> Result<Ve
     ensures early { IsOfReading result }
     ensures plain { IfErr result IsPlain }
     ensures end { OnOk result (HasReadWhole (octets_of (F.files shelf.old) name.now) (F.rest shelf.new)) }
+    ensures bounds { MovesInInput most_taken_of_record (F.files shelf.old) name.now (F.rest shelf.old) (F.rest shelf.new) }
     ensures absent { IsAbsentFile (F.files shelf.old) name.now → IsErrOf result ReplayStatus.ReadFault }
 {
     if shelf.select(name).is_err() {

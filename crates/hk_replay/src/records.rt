@@ -3,7 +3,8 @@ ghost use Rattle.std.specs.Prelude.{◌≡◌, ◌≤◌, ◌⊎◌, List, ℕ, 
 ghost use Rattle.hk_base.specs.Outside.{HasRisen};
 ghost use Rattle.hk_base.specs.TailoringParts.{TailoringParts};
 ghost use Rattle.hk_tailoring.specs.declared.fault.TailoringFault.{TailoringFault};
-ghost use Rattle.program_edge.specs.Inputs.{IsReadOut};
+ghost use Rattle.program_edge.specs.Bounds.{most_taken_of_record};
+ghost use Rattle.program_edge.specs.Inputs.{IsReadOut, TakesAtMost};
 ghost use Rattle.program_edge.specs.Names.{named};
 ghost use Rattle.program_edge.specs.Tailorings.{octets_of, HasReadFile, IsAbsent, IsAbsentFile, StandsFor};
 ghost use Rattle.hk_replay.specs.Words.{on_record};
@@ -11,7 +12,7 @@ ghost use Rattle.hk_replay.specs.Asked.{asked_of_record};
 ghost use Rattle.hk_replay.specs.Faults.{IsPlain};
 ghost use Rattle.hk_replay.specs.Outcomes.{outcome_text, record_outcome};
 ghost use Rattle.hk_replay.specs.Replay.{HasOutput, WritesNothingOf};
-ghost use Rattle.hk_replay.specs.Inputs.{told_under, HasGiven, HasGivenFrom, HasGivenUnder, EndsWithoutInput};
+ghost use Rattle.hk_replay.specs.Inputs.{told_under, HasGiven, HasGivenFrom, HasGivenUnder, MovesInInput, MovesUnder, EndsWithoutInput};
 
 use crate::entries::{followed, shown};
 use crate::session::replayed;
@@ -35,6 +36,7 @@ pub fn under_tailoring<F: Shelf, K: Sink>(
     ensures read_fault { result ≡ ReplayStatus.ReadFault → HasRisen (F.faults shelf.old) (F.faults shelf.new) }
     ensures write_fault { result ≡ ReplayStatus.WriteFault → HasRisen (K.faults sink.old) (K.faults sink.new) }
     ensures end { result ≡ ReplayStatus.Done → HasReadFile (F.files shelf.old) (F.rest shelf.new) }
+    ensures bounds { MovesUnder most_taken_of_record (F.files shelf.old) (named tailoring.entry) name.now (F.rest shelf.old) (F.rest shelf.new) }
     ensures absent { IsAbsent (F.files shelf.old) (named tailoring.entry) ⊎ IsAbsentFile (F.files shelf.old) name.now
         → EndsWithoutInput (F.files shelf.old) (on_record (asked_of_record command) (named tailoring.entry) name.now) result × (K.taken sink.new ≡ K.taken sink.old) }
     ensures nothing { WritesNothingOf (asked_of_record command) result (K.taken sink.old) (K.taken sink.new) }
@@ -63,6 +65,7 @@ fn on_named<F: Shelf, K: Sink>(
     ensures read_fault { result ≡ ReplayStatus.ReadFault → HasRisen (F.faults shelf.old) (F.faults shelf.new) }
     ensures write_fault { result ≡ ReplayStatus.WriteFault → HasRisen (K.faults sink.old) (K.faults sink.new) }
     ensures end { result ≡ ReplayStatus.Done → HasReadFile (F.files shelf.old) (F.rest shelf.new) }
+    ensures bounds { MovesInInput most_taken_of_record (F.files shelf.old) name.now (F.rest shelf.old) (F.rest shelf.new) }
     ensures absent { IsAbsentFile (F.files shelf.old) name.now → (result ≡ ReplayStatus.ReadFault) × (K.taken sink.new ≡ K.taken sink.old) }
     ensures nothing { WritesNothingOf (asked_of_record command) result (K.taken sink.old) (K.taken sink.new) }
     ensures output { IfSome (octets_of (F.files shelf.old) name.now) (λ octets. HasOutput result (record_outcome (asked_of_record command) tailoring.now octets) (K.taken sink.old) (K.taken sink.new)) }
@@ -89,6 +92,7 @@ fn on_selected<F: Shelf, K: Sink>(
     ensures read_fault { result ≡ ReplayStatus.ReadFault → HasRisen (F.faults shelf.old) (F.faults shelf.new) }
     ensures write_fault { result ≡ ReplayStatus.WriteFault → HasRisen (K.faults sink.old) (K.faults sink.new) }
     ensures end { result ≡ ReplayStatus.Done → IsReadOut (F.rest shelf.old) (F.rest shelf.new) }
+    ensures bounds { TakesAtMost most_taken_of_record (F.rest shelf.old) (F.rest shelf.new) }
     ensures nothing { WritesNothingOf (asked_of_record command) result (K.taken sink.old) (K.taken sink.new) }
     ensures output { IfSome (F.rest shelf.old) (λ octets. HasOutput result (record_outcome (asked_of_record command) tailoring.now octets) (K.taken sink.old) (K.taken sink.new)) }
     ensures given { IfSome (F.rest shelf.old) (λ octets. result ≡ ReplayStatus.ReadFault → HasGiven (asked_of_record command) tailoring.now octets (F.rest shelf.new) (K.taken sink.old) (K.taken sink.new)) }

@@ -44,7 +44,7 @@ pub fn replay_main<F: Shelf, K: Sink>(
     ensures plain { IsPlain result }
     // Done says that what was selected last was read to its end: the record, the lines, or the tailoring that is checked. A record that is trimmed was read to its end or a cut.
     ensures end { result ≡ ReplayStatus.Done → HasReadAllOf (F.files shelf.old) (command_of (map string_bytes words.now)) (F.rest shelf.new) }
-    // Of a tailoring file and of a file of lines no more is taken than it may have, and a piece.
+    // Of each input no more is taken than it may have and a piece, and of a record the kind and length of one entry more.
     ensures bounds { MovesShelfOf (F.files shelf.old) (command_of (map string_bytes words.now)) (F.rest shelf.old) (F.rest shelf.new) }
     // Where a named input isn't there, that is told, or an earlier fault, and nothing was written.
     ensures absent { LacksInputOf (F.files shelf.old) (command_of (map string_bytes words.now)) → EndsWithoutInputOf (F.files shelf.old) (command_of (map string_bytes words.now)) result × (K.taken sink.new ≡ K.taken sink.old) }

@@ -1,7 +1,8 @@
 //! The session of a record: all of it is read, and then its text is written.
 ghost use Rattle.std.specs.Prelude.{◌≡◌, ◌+◌, ◌<◌, ◌≤◌, ◌^◌, length, IfErr, IfSome, IsErrOf, IsSome, OnOk};
 ghost use Rattle.hk_base.specs.Outside.{HasRisen};
-ghost use Rattle.program_edge.specs.Inputs.{IsReadOut};
+ghost use Rattle.program_edge.specs.Bounds.{GoesWithin, most_taken_of_record};
+ghost use Rattle.program_edge.specs.Inputs.{IsReadOut, TakesAtMost};
 ghost use Rattle.session_record.specs.Records.{held_octets, most_entries};
 ghost use Rattle.session_record.specs.Reading.{to_come};
 ghost use Rattle.decommutator.specs.Standing.{standing_text};
@@ -29,6 +30,7 @@ pub fn replayed<F: Shelf, K: Sink>(
     ensures read_fault { result ≡ ReplayStatus.ReadFault → HasRisen (F.faults shelf.old) (F.faults shelf.new) }
     ensures write_fault { result ≡ ReplayStatus.WriteFault → HasRisen (K.faults sink.old) (K.faults sink.new) }
     ensures end { result ≡ ReplayStatus.Done → IsReadOut (F.rest shelf.old) (F.rest shelf.new) }
+    ensures bounds { TakesAtMost most_taken_of_record (F.rest shelf.old) (F.rest shelf.new) }
     ensures nothing { WritesNothingEarly result (K.taken sink.old) (K.taken sink.new) }
     ensures output { IfSome (F.rest shelf.old) (λ octets. HasOutput result (replay_outcome tailoring.now octets) (K.taken sink.old) (K.taken sink.new)) }
     ensures sound { F.is_sound shelf.old → IsSome (F.rest shelf.old) → F.faults shelf.new ≡ F.faults shelf.old }
@@ -70,6 +72,7 @@ fn all_written<F: Shelf, K: Sink>(
     ensures read_fault { result ≡ ReplayStatus.ReadFault → HasRisen (F.faults shelf.old) (F.faults shelf.new) }
     ensures write_fault { result ≡ ReplayStatus.WriteFault → HasRisen (K.faults sink.old) (K.faults sink.new) }
     ensures end { result ≡ ReplayStatus.Done → IsReadOutAfter first (F.rest shelf.old) (F.rest shelf.new) }
+    ensures bounds { GoesWithin reader.old (F.rest shelf.old) reader.new (F.rest shelf.new) }
     ensures nothing { WritesNothingEarly result (K.taken sink.old) (K.taken sink.new) }
     ensures output { IfSome (F.rest shelf.old) (λ octets. HasOutput result (first_outcome session.old.standing first (to_come reader.old octets)) (K.taken sink.old) (K.taken sink.new)) }
     ensures sound { F.is_sound shelf.old → IsSome (F.rest shelf.old) → F.faults shelf.new ≡ F.faults shelf.old }
@@ -110,6 +113,7 @@ fn take_all<F: Shelf>(
     ensures failed { IsErrOf result ReplayStatus.ReadFault → HasRisen (F.faults shelf.old) (F.faults shelf.new) }
     ensures sound { F.is_sound shelf.old → IsSome (F.rest shelf.old) → F.faults shelf.new ≡ F.faults shelf.old }
     ensures end { OnOk result (IsReadOutAfter first (F.rest shelf.old) (F.rest shelf.new)) }
+    ensures bounds { GoesWithin reader.old (F.rest shelf.old) reader.new (F.rest shelf.new) }
     ensures early { IsOfReading result }
     ensures plain { IfErr result IsPlain }
 {
@@ -131,6 +135,7 @@ fn take_rest<F: Shelf>(
     ensures failed { IsErrOf result ReplayStatus.ReadFault → HasRisen (F.faults shelf.old) (F.faults shelf.new) }
     ensures sound { F.is_sound shelf.old → IsSome (F.rest shelf.old) → F.faults shelf.new ≡ F.faults shelf.old }
     ensures end { OnOk result (IsReadOut (F.rest shelf.old) (F.rest shelf.new)) }
+    ensures bounds { GoesWithin reader.old (F.rest shelf.old) reader.new (F.rest shelf.new) }
     ensures early { IsOfReading result }
     ensures plain { IfErr result IsPlain }
 {

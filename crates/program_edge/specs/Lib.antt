@@ -4,3 +4,4 @@ pub mod Inputs
 pub mod Names
 pub mod Tailorings
 pub mod Texts
+pub mod Bounds

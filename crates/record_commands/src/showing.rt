@@ -2,7 +2,8 @@
 ghost use Rattle.std.specs.Prelude.{◌≡◌, ◌+◌, Result, Option, Some, None, IsErrOf, IfSome, IsSome, IfOk, OnOk};
 ghost use Rattle.hk_base.specs.Outside.{HasRisen};
 ghost use Rattle.program_edge.specs.Faults.{IsOfRecordRun};
-ghost use Rattle.program_edge.specs.Inputs.{IsReadOut, IsReadOutAtEnd};
+ghost use Rattle.program_edge.specs.Bounds.{GoesWithin, most_taken_of_record};
+ghost use Rattle.program_edge.specs.Inputs.{IsReadOut, IsReadOutAtEnd, TakesAtMost};
 ghost use Rattle.session_record.specs.Reading.{Reading, reading_at_start, to_come};
 ghost use Rattle.record_commands.specs.Showing.{Shows, TakesLine, WithRoom};
 
@@ -22,6 +23,7 @@ pub fn show<F: Shelf, K: Sink>(
 ) -> Result<(), RunFault>
     ensures shown { IfSome (F.rest shelf.old) (λ octets. Shows result tailoring.now octets (F.rest shelf.new) (K.taken sink.old) (K.taken sink.new)) }
     ensures end { OnOk result (IsReadOut (F.rest shelf.old) (F.rest shelf.new)) }
+    ensures bounded { TakesAtMost most_taken_of_record (F.rest shelf.old) (F.rest shelf.new) }
     ensures causes { IsOfRecordRun result }
     ensures read_fault { IsErrOf result RunFault.ReadFault → HasRisen (F.faults shelf.old) (F.faults shelf.new) }
     ensures write_fault { IsErrOf result RunFault.WriteFault → HasRisen (K.faults sink.old) (K.faults sink.new) }
@@ -43,6 +45,7 @@ fn show_entries<F: Shelf, K: Sink>(
     requires { reader.old ≡ reading_at_start }
     ensures shown { IfSome (F.rest shelf.old) (λ octets. Shows result tailoring.now octets (F.rest shelf.new) (K.taken sink.old) (K.taken sink.new)) }
     ensures end { OnOk result (IsReadOut (F.rest shelf.old) (F.rest shelf.new)) }
+    ensures bounded { GoesWithin reader.old (F.rest shelf.old) reader.new (F.rest shelf.new) }
     ensures causes { IsOfRecordRun result }
     ensures read_fault { IsErrOf result RunFault.ReadFault → HasRisen (F.faults shelf.old) (F.faults shelf.new) }
     ensures write_fault { IsErrOf result RunFault.WriteFault → HasRisen (K.faults sink.old) (K.faults sink.new) }
@@ -66,6 +69,7 @@ fn next_line<F: Shelf>(
 ) -> Result<Option<Octets>, RecordFault>
     ensures takes { TakesLine result tailoring.now reader.old (F.rest shelf.old) reader.new (F.rest shelf.new) }
     ensures end { IsReadOutAtEnd result (F.rest shelf.old) (F.rest shelf.new) }
+    ensures bounded { GoesWithin reader.old (F.rest shelf.old) reader.new (F.rest shelf.new) }
     ensures fewer { IfOk result (λ next. IfSome next (λ line. reader.old.room ≡ reader.new.room + 1)) }
     ensures failed { IsErrOf result RecordFault.ReadFault → HasRisen (F.faults shelf.old) (F.faults shelf.new) }
     ensures quiet { OnOk result (F.faults shelf.new ≡ F.faults shelf.old) }

@@ -1,6 +1,8 @@
 //! A record without what a recorder that was cut off left behind its last whole entry.
 ghost use Rattle.std.specs.Prelude.{◌≡◌, ◌+◌, ◌≤◌, ◌^◌, [], ◌++◌, length, Result, Some, ℕ, List, IsErrOf, IfSome, IsSome, IfOk, IfErr, OnOk};
 ghost use Rattle.hk_base.specs.Outside.{HasRisen};
+ghost use Rattle.program_edge.specs.Bounds.{GoesWithin, most_taken_of_record};
+ghost use Rattle.program_edge.specs.Inputs.{TakesAtMost};
 ghost use Rattle.session_record.specs.Records as records;
 ghost use Rattle.session_record.specs.Records.{held_octets, entry_octets, header_octets};
 ghost use Rattle.session_record.specs.Reading.{reading_at_start, to_come};
@@ -15,6 +17,7 @@ use std::alloc::Global;
 pub fn trimmed<F: Shelf>(alloc: Global, shelf: &mut F) -> Result<Vec<u8>, RecordFault>
     ensures longest { IfSome (F.rest shelf.old) (λ octets. IfOk result (λ out. records.trimmed octets ≡ Some out.items)) }
     ensures end { OnOk result (HasReadWhole (F.rest shelf.old) (F.rest shelf.new)) }
+    ensures bounded { TakesAtMost most_taken_of_record (F.rest shelf.old) (F.rest shelf.new) }
     ensures outcome { IfSome (F.rest shelf.old) (λ octets. ReadsAs (λ out. out.items) result (trimmed_octets octets)) }
     ensures failed { IsErrOf result RecordFault.ReadFault → HasRisen (F.faults shelf.old) (F.faults shelf.new) }
     ensures sound { F.is_sound shelf.old → IsSome (F.rest shelf.old) → F.faults shelf.new ≡ F.faults shelf.old }
@@ -25,6 +28,7 @@ pub fn trimmed<F: Shelf>(alloc: Global, shelf: &mut F) -> Result<Vec<u8>, Record
 /// The same, by what is kept of it.
 fn whole_entries<F: Shelf>(alloc: Global, shelf: &mut F) -> Result<Vec<u8>, RecordFault>
     ensures end { OnOk result (HasReadWhole (F.rest shelf.old) (F.rest shelf.new)) }
+    ensures bounded { TakesAtMost most_taken_of_record (F.rest shelf.old) (F.rest shelf.new) }
     ensures outcome { IfSome (F.rest shelf.old) (λ octets. ReadsAs (λ out. out.items) result (trimmed_octets octets)) }
     ensures failed { IsErrOf result RecordFault.ReadFault → HasRisen (F.faults shelf.old) (F.faults shelf.new) }
     ensures sound { F.is_sound shelf.old → IsSome (F.rest shelf.old) → F.faults shelf.new ≡ F.faults shelf.old }
@@ -46,6 +50,7 @@ fn trim_into<F: Shelf>(
     requires start { reader.old ≡ reading_at_start }
     requires empty { draft.old.octets.items ≡ [] }
     ensures end { OnOk result (HasReadWhole (F.rest shelf.old) (F.rest shelf.new)) }
+    ensures bounded { GoesWithin reader.old (F.rest shelf.old) reader.new (F.rest shelf.new) }
     ensures kept { IfSome (F.rest shelf.old) (λ octets. IsKept (trimmed_octets octets) result draft.new.octets.items) }
     ensures failed { IsErrOf result RecordFault.ReadFault → HasRisen (F.faults shelf.old) (F.faults shelf.new) }
     ensures sound { F.is_sound shelf.old → IsSome (F.rest shelf.old) → F.faults shelf.new ≡ F.faults shelf.old }
@@ -76,6 +81,7 @@ fn keep_whole<F: Shelf>(
 ) -> Result<(), RecordFault>
     requires { IfSome first (λ entry. length (held_octets entry) ≤ 2 ^ 31) }
     ensures end { OnOk result (IsKeptTo first reader.old (F.rest shelf.old) (F.rest shelf.new)) }
+    ensures bounded { GoesWithin reader.old (F.rest shelf.old) reader.new (F.rest shelf.new) }
     ensures kept { IfSome (F.rest shelf.old) (λ left. (given : Result (List ℕ) RecordFault)
         → IsTrimmed given draft.old.octets.items first (to_come reader.old left) → IsKept given result draft.new.octets.items) }
     ensures failed { IsErrOf result RecordFault.ReadFault → HasRisen (F.faults shelf.old) (F.faults shelf.new) }
@@ -96,6 +102,7 @@ fn next_whole<F: Shelf>(
 ) -> Result<Option<Entry>, RecordFault>
     ensures takes { TakesWhole result reader.old (F.rest shelf.old) reader.new (F.rest shelf.new) }
     ensures end { IsReadToCut result reader.old (F.rest shelf.old) reader.new (F.rest shelf.new) }
+    ensures within { GoesWithin reader.old (F.rest shelf.old) reader.new (F.rest shelf.new) }
     ensures header { OnOk result (IsSome reader.new.header) }
     ensures same_header { IfSome reader.old.header (λ header. reader.new.header ≡ Some header) }
     ensures bounded { IfOk result (λ next. IfSome next (λ entry. (length (held_octets entry) ≤ 2 ^ 31) × (reader.old.room ≡ reader.new.room + 1))) }

@@ -1,6 +1,7 @@
 use Rattle.std.proofs.Common.{◌≡◌, ◌+◌, List, ℕ, Option, Some, None, Ok, Err, arith, refl, rules, sym, ap, subst, ◌∙◌}
 use Rattle.std.proofs.lemmas.Result.{err_from_is_err_and}
 use Rattle.std.specs.Prelude.{IsSome}
+use Rattle.program_edge.proofs.BoundLemmas.{within_next, within_none, within_then}
 use Rattle.program_edge.proofs.ReaderLemmas.{read_out_at_end, read_out_since, told_on}
 use Rattle.session_record.specs.Faults.{lasting}
 use Rattle.session_record.specs.Reading.{Answers, GoesOn, HasHeader, Moves, to_come}
@@ -19,6 +20,7 @@ loop-session-init g c = record {
   followed = on_start c.args.start c.args.reader.now (g.F.Shelf.rest c.args.shelf.now) (g.K.Sink.taken c.args.sink.now);
   room = room_start c.args.start c.args.reader.now (g.F.Shelf.rest c.args.shelf.now) (g.K.Sink.room c.args.sink.now);
   told = λ h. h;
+  within = within_none c.args.reader.now (g.F.Shelf.rest c.args.shelf.now);
   few = c.requires.few;
   waiting = c.requires.followed;
   faults = refl;
@@ -86,6 +88,8 @@ loop-session-preserved-in_ok-session g c =
       room = room_next T (g.F.Shelf.rest c.args.shelf.now) (g.K.Sink.room c.args.sink.now) d c.in_ok-session.session r s rest left (g.K.Sink.room c.loop-session.sink) (g.K.Sink.room c.follow_entry.new.sink) x
           (g.K.Sink.taken c.loop-session.sink) (g.K.Sink.taken c.follow_entry.new.sink) c.loop-session.invariant.room answer entry c.in_ok-session.ensures.room;
       told = told_on (Ok (Some x)) r s (g.F.Shelf.rest c.args.shelf.now) rest left c.loop-session.invariant.told answer;
+      within = within_then c.args.reader.now c.loop-session.reader c.next.new.self (g.F.Shelf.rest c.args.shelf.now) (g.F.Shelf.rest c.loop-session.shelf) (g.F.Shelf.rest c.next.new.shelf) c.loop-session.invariant.within
+          (within_next c.next.result c.loop-session.reader c.next.new.self (g.F.Shelf.rest c.loop-session.shelf) (g.F.Shelf.rest c.next.new.shelf) c.next.ensures.goes_on c.next.ensures.taken c.next.ensures.few);
       few = omega (arith, entries, moves.3, c.loop-session.invariant.few);
       waiting = subst (λ (y : Decommutation). IsSome y.waiting) (sym entry.1) refl;
       faults = search rules;
@@ -113,6 +117,8 @@ loop-session-preserved-in_ok-session-2 g c =
       room = room_next T (g.F.Shelf.rest c.args.shelf.now) (g.K.Sink.room c.args.sink.now) d c.in_ok-session.session r s rest left (g.K.Sink.room c.loop-session.sink) (g.K.Sink.room c.follow_entry.new.sink) x
           (g.K.Sink.taken c.loop-session.sink) (g.K.Sink.taken c.follow_entry.new.sink) c.loop-session.invariant.room answer entry c.in_ok-session.ensures.room;
       told = told_on (Ok (Some x)) r s (g.F.Shelf.rest c.args.shelf.now) rest left c.loop-session.invariant.told answer;
+      within = within_then c.args.reader.now c.loop-session.reader c.next.new.self (g.F.Shelf.rest c.args.shelf.now) (g.F.Shelf.rest c.loop-session.shelf) (g.F.Shelf.rest c.next.new.shelf) c.loop-session.invariant.within
+          (within_next c.next.result c.loop-session.reader c.next.new.self (g.F.Shelf.rest c.loop-session.shelf) (g.F.Shelf.rest c.next.new.shelf) c.next.ensures.goes_on c.next.ensures.taken c.next.ensures.few);
       few = omega (arith, entries, moves.3, c.loop-session.invariant.few);
       waiting = subst (λ (y : Decommutation). IsSome y.waiting) (sym entry.1) refl;
       faults = search rules;
@@ -140,6 +146,8 @@ loop-session-preserved g c =
       room = room_next T (g.F.Shelf.rest c.args.shelf.now) (g.K.Sink.room c.args.sink.now) d c.in_ok-session.session r s rest left (g.K.Sink.room c.loop-session.sink) (g.K.Sink.room c.follow_entry.new.sink) x
           (g.K.Sink.taken c.loop-session.sink) (g.K.Sink.taken c.follow_entry.new.sink) c.loop-session.invariant.room answer entry c.in_ok-session.ensures.room;
       told = told_on (Ok (Some x)) r s (g.F.Shelf.rest c.args.shelf.now) rest left c.loop-session.invariant.told answer;
+      within = within_then c.args.reader.now c.loop-session.reader c.next.new.self (g.F.Shelf.rest c.args.shelf.now) (g.F.Shelf.rest c.loop-session.shelf) (g.F.Shelf.rest c.next.new.shelf) c.loop-session.invariant.within
+          (within_next c.next.result c.loop-session.reader c.next.new.self (g.F.Shelf.rest c.loop-session.shelf) (g.F.Shelf.rest c.next.new.shelf) c.next.ensures.goes_on c.next.ensures.taken c.next.ensures.few);
       few = omega (arith, entries, moves.3, c.loop-session.invariant.few);
       waiting = subst (λ (y : Decommutation). IsSome y.waiting) (sym entry.1) refl;
       faults = search rules;
@@ -171,3 +179,18 @@ pub returns-in_err-offset-clause-causes : goal.returns-in_err-offset-clause-caus
 returns-in_err-offset-clause-causes g c =
     let p = err_from_is_err_and c.from_residual.result c.from_residual.ensures.1 in
     rw (p.1, p.2) (of_reading c.in_err-offset.field-0.0)
+
+pub returns-in_err-offset-clause-bounded : goal.returns-in_err-offset-clause-bounded
+returns-in_err-offset-clause-bounded g c =
+    within_then c.args.reader.now c.loop-session.reader c.next.new.self (g.F.Shelf.rest c.args.shelf.now) (g.F.Shelf.rest c.loop-session.shelf) (g.F.Shelf.rest c.next.new.shelf) c.loop-session.invariant.within
+    (within_next c.next.result c.loop-session.reader c.next.new.self (g.F.Shelf.rest c.loop-session.shelf) (g.F.Shelf.rest c.next.new.shelf) c.next.ensures.goes_on c.next.ensures.taken c.next.ensures.few)
+
+pub returns-in_err-session-clause-bounded : goal.returns-in_err-session-clause-bounded
+returns-in_err-session-clause-bounded g c =
+    within_then c.args.reader.now c.loop-session.reader c.next.new.self (g.F.Shelf.rest c.args.shelf.now) (g.F.Shelf.rest c.loop-session.shelf) (g.F.Shelf.rest c.next.new.shelf) c.loop-session.invariant.within
+    (within_next c.next.result c.loop-session.reader c.next.new.self (g.F.Shelf.rest c.loop-session.shelf) (g.F.Shelf.rest c.next.new.shelf) c.next.ensures.goes_on c.next.ensures.taken c.next.ensures.few)
+
+pub returns-clause-bounded : goal.returns-clause-bounded
+returns-clause-bounded g c =
+    within_then c.args.reader.now c.loop-session.reader c.next.new.self (g.F.Shelf.rest c.args.shelf.now) (g.F.Shelf.rest c.loop-session.shelf) (g.F.Shelf.rest c.next.new.shelf) c.loop-session.invariant.within
+    (within_next c.next.result c.loop-session.reader c.next.new.self (g.F.Shelf.rest c.loop-session.shelf) (g.F.Shelf.rest c.next.new.shelf) c.next.ensures.goes_on c.next.ensures.taken c.next.ensures.few)

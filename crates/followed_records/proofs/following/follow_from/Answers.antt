@@ -1,5 +1,6 @@
 use Rattle.std.proofs.Common.{Ok, Err}
 use Rattle.std.proofs.lemmas.Result.{err_from_is_err_and}
+use Rattle.program_edge.proofs.BoundLemmas.{within_none}
 use Rattle.followed_records.specs.Following.{told_from, HasRoomLeft, IsUnfailed}
 use Rattle.followed_records.proofs.FollowingLemmas.{from_ends, from_until, from_all}
 use Rattle.followed_records.proofs.RoomLemmas.{from_fails, from_room, end_room, unfailed, with_map}
@@ -49,3 +50,6 @@ returns-clause-room g c =
     (end_room c.in_ok-session-2.session (g.K.Sink.room c.follow_rest.new.sink) c.close.result c.close.ensures.room)
     (from_room rest room (g.K.Sink.room c.follow_entry.new.sink) c.args.session c.in_ok-session.session c.args.offset c.args.entry.now c.args.reader.now
     (g.K.Sink.taken c.args.sink.now) (g.K.Sink.taken c.follow_entry.new.sink) left c.in_ok-session.ensures.followed c.in_ok-session.ensures.room c.in_ok-session-2.ensures.room)
+
+pub returns-in_err-session-clause-bounded : goal.returns-in_err-session-clause-bounded
+returns-in_err-session-clause-bounded g c = within_none c.args.reader.now (g.F.Shelf.rest c.args.shelf.now)

@@ -4,6 +4,7 @@ use Rattle.session_record.specs.Faults.{lasting}
 use Rattle.session_record.specs.Records.{read_record}
 use Rattle.session_record.specs.Reading.{Reading, Answers, GoesOn, HasHeader, reading_at_start}
 use Rattle.session_record.specs.declared.entry.Entry.{Entry}
+use Rattle.program_edge.proofs.BoundLemmas.{takes_from, takes_none, within_next, within_then}
 use Rattle.program_edge.proofs.ReaderLemmas.{read_out_at_end, told_on}
 use Rattle.followed_records.specs.Told.{told}
 use Rattle.followed_records.specs.Following.{IsUnfailed}
@@ -110,3 +111,43 @@ returns-clause-end g c =
     let x : ℕ × Entry = (c.in-Some.offset, c.in-Some.entry) in
     let answer = subst (λ (o : Option (ℕ × Entry)). Answers (Ok o) r rest q left) c.in-Some.is c.in_ok-first.ensures.answer in
     on_since c.follow_from.result rest left (g.F.Shelf.rest c.follow_from.new.shelf) (told_on (Ok (Some x)) r q rest rest left (λ h. h) answer) c.follow_from.ensures.end
+
+pub returns-in_err-reader-clause-bounded : goal.returns-in_err-reader-clause-bounded
+returns-in_err-reader-clause-bounded g c = takes_none (g.F.Shelf.rest c.args.shelf.now)
+
+pub returns-in_err-first-clause-bounded : goal.returns-in_err-first-clause-bounded
+returns-in_err-first-clause-bounded g c =
+    let r = c.in_ok-reader.reader in
+    let q = c.next.new.self in
+    let was = g.F.Shelf.rest c.args.shelf.now in
+    let rest = g.F.Shelf.rest c.next.new.shelf in
+    let first = within_next c.next.result r q was rest c.next.ensures.goes_on c.next.ensures.taken c.next.ensures.few in
+    takes_from r q was rest c.in_ok-reader.ensures first
+
+pub returns-in_err-session-clause-bounded : goal.returns-in_err-session-clause-bounded
+returns-in_err-session-clause-bounded g c =
+    let r = c.in_ok-reader.reader in
+    let q = c.next.new.self in
+    let was = g.F.Shelf.rest c.args.shelf.now in
+    let rest = g.F.Shelf.rest c.next.new.shelf in
+    let first = within_next c.next.result r q was rest c.next.ensures.goes_on c.next.ensures.taken c.next.ensures.few in
+    takes_from r q was rest c.in_ok-reader.ensures first
+
+pub returns-in-None-clause-bounded : goal.returns-in-None-clause-bounded
+returns-in-None-clause-bounded g c =
+    let r = c.in_ok-reader.reader in
+    let q = c.next.new.self in
+    let was = g.F.Shelf.rest c.args.shelf.now in
+    let rest = g.F.Shelf.rest c.next.new.shelf in
+    let first = within_next c.next.result r q was rest c.next.ensures.goes_on c.next.ensures.taken c.next.ensures.few in
+    takes_from r q was rest c.in_ok-reader.ensures first
+
+pub returns-clause-bounded : goal.returns-clause-bounded
+returns-clause-bounded g c =
+    let r = c.in_ok-reader.reader in
+    let q = c.next.new.self in
+    let was = g.F.Shelf.rest c.args.shelf.now in
+    let rest = g.F.Shelf.rest c.next.new.shelf in
+    let first = within_next c.next.result r q was rest c.next.ensures.goes_on c.next.ensures.taken c.next.ensures.few in
+    let later = g.F.Shelf.rest c.follow_from.new.shelf in
+    takes_from r c.follow_from.new.reader was later c.in_ok-reader.ensures (within_then r q c.follow_from.new.reader was rest later first c.follow_from.ensures.bounded)

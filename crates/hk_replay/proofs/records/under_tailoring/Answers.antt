@@ -1,5 +1,6 @@
 use Rattle.std.proofs.Common.{◌≡◌, ℕ, List, Option, Err, inl, refl, sym, ap, subst, ◌∙◌}
 use Rattle.std.specs.Prelude.{IfSome}
+use Rattle.program_edge.specs.Bounds.{most_taken_of_record}
 use Rattle.program_edge.specs.Names.{named}
 use Rattle.program_edge.specs.Tailorings.{octets_of, HasReadFile}
 use Rattle.hk_replay.specs.Words.{on_record}
@@ -9,7 +10,7 @@ use Rattle.hk_replay.specs.Outcomes.{record_outcome}
 use Rattle.hk_replay.specs.Replay.{HasOutput, WritesNothingOf}
 use Rattle.hk_replay.specs.Inputs.{told_under, EndsWithoutInput}
 use Rattle.hk_replay.specs.declared.status.ReplayStatus.{ReplayStatus}
-use Rattle.hk_replay.proofs.StatusLemmas.{lacking_record, lacking_second, ok_err, nothing_same, plain_tailoring, read_run, undone, unwritten, used, without_output}
+use Rattle.hk_replay.proofs.StatusLemmas.{lacking_record, lacking_second, moved_then, ok_err, nothing_same, plain_tailoring, read_run, undone, unwritten, used, without_output}
 use Rattle.hk_replay.proofs.records.under_tailoring.Goals as goal
 
 pub returns-in-Err-clause-used : goal.returns-in-Err-clause-used
@@ -66,3 +67,11 @@ returns-in-Ok-clause-absent g c =
     (EndsWithoutInput files what c.on_named.result × (g.K.Sink.taken c.on_named.new.sink ≡ g.K.Sink.taken c.args.sink.now)) gone c.tailoring_of.ensures.files
     (λ first. ok_err _ _ (c.in-Ok.ensures.absent first))
     (λ second. let told = c.on_named.ensures.absent second in (subst (λ (s : ReplayStatus). EndsWithoutInput files what s) (sym told.0) tt, told.1))
+
+pub returns-in-Err-clause-bounds : goal.returns-in-Err-clause-bounds
+returns-in-Err-clause-bounds g c = inl c.in-Err.ensures.moves
+
+pub returns-in-Ok-clause-bounds : goal.returns-in-Ok-clause-bounds
+returns-in-Ok-clause-bounds g c =
+    moved_then most_taken_of_record (g.F.Shelf.files c.args.shelf.now) (g.F.Shelf.files c.tailoring_of.new.shelf) (named c.args.tailoring) c.args.name.now
+    (g.F.Shelf.rest c.args.shelf.now) (g.F.Shelf.rest c.tailoring_of.new.shelf) (g.F.Shelf.rest c.on_named.new.shelf) c.tailoring_of.ensures.files c.tailoring_of.ensures.moves c.on_named.ensures.bounds

@@ -3,6 +3,7 @@ use Rattle.std.specs.Prelude.{IfSome}
 use Rattle.hk_base.specs.TailoringParts.{TailoringParts}
 use Rattle.session_record.specs.Reading.{Reading, Answers, reading_at_start}
 use Rattle.decommutator.specs.Standing.{new_standing}
+use Rattle.program_edge.proofs.BoundLemmas.{takes_from, takes_none, within_next, within_then}
 use Rattle.hk_replay.specs.Outcomes.{outcome_text, replay_outcome}
 use Rattle.hk_replay.specs.Replay.{HasOutput}
 use Rattle.hk_replay.specs.declared.status.ReplayStatus.{ReplayStatus}
@@ -67,3 +68,34 @@ pub returns-clause-end : goal.returns-clause-end
 returns-clause-end g c = λ done.
     first_read c.in-Ok-next.first c.in-Ok.reader c.next.new.self (g.F.Shelf.rest c.args.shelf.now) (g.F.Shelf.rest c.next.new.shelf) (g.F.Shelf.rest c.all_written.new.shelf)
     c.in-Ok-next.ensures.answer c.in-Ok-next.ensures.header (c.all_written.ensures.end done)
+
+pub returns-in_default-clause-bounds : goal.returns-in_default-clause-bounds
+returns-in_default-clause-bounds g c = takes_none (g.F.Shelf.rest c.args.shelf.now)
+
+pub returns-in-Err-clause-bounds : goal.returns-in-Err-clause-bounds
+returns-in-Err-clause-bounds g c =
+    let r = c.in-Ok.reader in
+    let q = c.next.new.self in
+    let was = g.F.Shelf.rest c.args.shelf.now in
+    let rest = g.F.Shelf.rest c.next.new.shelf in
+    let first = within_next c.next.result r q was rest c.next.ensures.goes_on c.next.ensures.taken c.next.ensures.few in
+    takes_from r q was rest c.in-Ok.ensures first
+
+pub returns-in_default-copy-clause-bounds : goal.returns-in_default-copy-clause-bounds
+returns-in_default-copy-clause-bounds g c =
+    let r = c.in-Ok.reader in
+    let q = c.next.new.self in
+    let was = g.F.Shelf.rest c.args.shelf.now in
+    let rest = g.F.Shelf.rest c.next.new.shelf in
+    let first = within_next c.next.result r q was rest c.next.ensures.goes_on c.next.ensures.taken c.next.ensures.few in
+    takes_from r q was rest c.in-Ok.ensures first
+
+pub returns-clause-bounds : goal.returns-clause-bounds
+returns-clause-bounds g c =
+    let r = c.in-Ok.reader in
+    let q = c.next.new.self in
+    let was = g.F.Shelf.rest c.args.shelf.now in
+    let rest = g.F.Shelf.rest c.next.new.shelf in
+    let first = within_next c.next.result r q was rest c.next.ensures.goes_on c.next.ensures.taken c.next.ensures.few in
+    let later = g.F.Shelf.rest c.all_written.new.shelf in
+    takes_from r c.all_written.new.reader was later c.in-Ok.ensures (within_then r q c.all_written.new.reader was rest later first c.all_written.ensures.bounds)

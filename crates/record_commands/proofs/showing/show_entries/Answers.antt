@@ -5,6 +5,7 @@ use Rattle.session_record.specs.Reading.{Reading}
 use Rattle.session_record.specs.declared.entry.RecordFault.{RecordFault}
 use Rattle.program_edge.specs.Inputs.{IsReadOutAtEnd}
 use Rattle.program_edge.proofs.FaultLemmas.{of_record_run, read_err, same_err, unwritten}
+use Rattle.program_edge.proofs.BoundLemmas.{within_none, within_then}
 use Rattle.program_edge.proofs.ReaderLemmas.{read_out_since}
 use Rattle.record_commands.specs.Showing.{TakesLine}
 use Rattle.record_commands.proofs.ShowLemmas.{KeepsShown, KeepsRoom, shows_start, room_start, shows_fault, shows_part, room_fails, shows_next, room_next, all_of, still_read}
@@ -19,6 +20,7 @@ loop-line-init g c =
     record {
       shown = subst (λ (r : Reading). KeepsShown t was r was taken taken) (sym c.requires) (shows_start t was taken);
       room = subst (λ (r : Reading). KeepsRoom t was room r was room) (sym c.requires) (room_start t was room);
+      within = within_none c.args.reader.now was;
       faults = refl;
       sink_faults = refl;
       sound = λ h. h;
@@ -54,6 +56,7 @@ loop-line-preserved g c =
           c.loop-line.invariant.shown takes (all_of c.as_slice.result.now c.write_all.result (g.K.Sink.taken c.loop-line.sink) (g.K.Sink.taken c.write_all.new.sink) (sym c.is_err.ensures.value ∙ c.if-is_err.false) c.write_all.ensures.written);
       room = room_next c.args.tailoring.now (g.F.Shelf.rest c.args.shelf.now) (g.K.Sink.room c.args.sink.now) c.loop-line.reader c.next_line.new.reader (g.F.Shelf.rest c.loop-line.shelf) (g.F.Shelf.rest c.next_line.new.shelf)
           (g.K.Sink.room c.loop-line.sink) (g.K.Sink.room c.write_all.new.sink) c.as_slice.result.now c.write_all.result c.loop-line.invariant.room takes c.write_all.ensures.room;
+      within = within_then c.args.reader.now c.loop-line.reader c.next_line.new.reader (g.F.Shelf.rest c.args.shelf.now) (g.F.Shelf.rest c.loop-line.shelf) (g.F.Shelf.rest c.next_line.new.shelf) c.loop-line.invariant.within c.next_line.ensures.bounded;
       faults = search rules;
       sink_faults = search rules;
       sound = search rules;
@@ -81,3 +84,12 @@ returns-clause-end g c =
     read_out_since (g.F.Shelf.rest c.args.shelf.now) rest left
     (still_read c.args.tailoring.now (g.F.Shelf.rest c.args.shelf.now) c.loop-line.reader rest (g.K.Sink.taken c.args.sink.now) (g.K.Sink.taken c.loop-line.sink) c.loop-line.invariant.shown)
     (subst (λ (o : Option (List ℕ)). IsReadOutAtEnd {E = RecordFault} (Ok o) rest left) c.in_default.is c.in_ok-line.ensures.end)
+
+pub returns-in_err-line-clause-bounded : goal.returns-in_err-line-clause-bounded
+returns-in_err-line-clause-bounded g c = within_then c.args.reader.now c.loop-line.reader c.next_line.new.reader (g.F.Shelf.rest c.args.shelf.now) (g.F.Shelf.rest c.loop-line.shelf) (g.F.Shelf.rest c.next_line.new.shelf) c.loop-line.invariant.within c.next_line.ensures.bounded
+
+pub returns-then-is_err-clause-bounded : goal.returns-then-is_err-clause-bounded
+returns-then-is_err-clause-bounded g c = within_then c.args.reader.now c.loop-line.reader c.next_line.new.reader (g.F.Shelf.rest c.args.shelf.now) (g.F.Shelf.rest c.loop-line.shelf) (g.F.Shelf.rest c.next_line.new.shelf) c.loop-line.invariant.within c.next_line.ensures.bounded
+
+pub returns-clause-bounded : goal.returns-clause-bounded
+returns-clause-bounded g c = within_then c.args.reader.now c.loop-line.reader c.next_line.new.reader (g.F.Shelf.rest c.args.shelf.now) (g.F.Shelf.rest c.loop-line.shelf) (g.F.Shelf.rest c.next_line.new.shelf) c.loop-line.invariant.within c.next_line.ensures.bounded

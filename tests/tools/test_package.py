@@ -98,11 +98,11 @@ class Package(unittest.TestCase):
 
 @unittest.skipUnless(shutil.which('bash'), "bash isn't there")
 class Completion(unittest.TestCase):
-    def completed(self, *words):
+    def completed(self, *words, program='hk_replay'):
         """What is offered for the last word, in the folder examples."""
-        script = 'source "$1"; shift; COMP_WORDS=("$@"); COMP_CWORD=$(($# - 1)); _hk_replay; printf "%s\\n" "${COMPREPLY[@]}"'
-        path = TOP / 'tools/completion/hk_replay'
-        return sorted(out('bash', '-c', script, 'bash', path, 'hk_replay', *words, cwd=EXAMPLES).split())
+        script = 'source "$1"; shift; COMP_WORDS=("$@"); COMP_CWORD=$(($# - 1)); "_$1"; printf "%s\\n" "${COMPREPLY[@]}"'
+        path = TOP / 'tools/completion' / program
+        return sorted(out('bash', '-c', script, 'bash', path, program, *words, cwd=EXAMPLES).split())
 
     def test_words(self):
         self.assertEqual(self.completed(''), sorted('replay follow show encode check trim generate'.split()))
@@ -115,6 +115,12 @@ class Completion(unittest.TestCase):
         # no file with the usual ending: all files
         self.assertEqual(self.completed('trim', 'builtin'), ['builtin.toml', 'builtin_check.txt'])
         self.assertEqual(self.completed('generate', '1', ''), [])
+
+    def test_words_of_the_board(self):
+        self.assertEqual(self.completed('', program='hk_board'), ['run'])
+        self.assertEqual(self.completed('run', 'b', program='hk_board'), ['builtin', 'builtin.toml'])
+        self.assertEqual(self.completed('run', 'builtin', 'l', program='hk_board'), ['lost_confirmation.script'])
+        self.assertEqual(self.completed('run', 'builtin', 'a.script', '', program='hk_board'), [])
 
 
 if __name__ == '__main__':
